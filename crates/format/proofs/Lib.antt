@@ -1,0 +1,13 @@
+pub mod Classes
+pub mod Demand3
+pub mod Dialects
+pub mod Ended
+pub mod Forms
+pub mod Held
+pub mod Length
+pub mod Leniencies
+pub mod Memory
+pub mod Places
+pub mod Rfc
+pub mod Tally
+pub mod Trim

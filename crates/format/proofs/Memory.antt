@@ -1,0 +1,155 @@
+-- Tables in memory: a table comes back from its memory, a well-formed memory from its table, and where records and fields stand.
+-- Fields of text by ends and records of fields by rows are both lists cut into parts: each law of parts is stated once.
+use Prim.Native.Nat.{ℕ, zero, suc, _+_, _≤_, _<_}
+use native.Mathlib.Omega.{arith}
+use mathlib.Core.Path.{_≡_, refl, sym, ap}
+use mathlib.Core.List.{List, [], _∷_, _++_, append-assoc, flatten}
+use lib.ListN.{length, take, drop, getD, length-append, take-append-drop}
+use lib.Seq.{slice, length-slice, length-take-le, take-all, take-at, drop-at, drop-nil, drop-length, drop-append-le, getD-take, getD-drop}
+use Rattle.format.specs.Table.{Bytes, Table, Every, lastOf}
+use Rattle.format.specs.Memory.{lengths, textOf, endsOf, rowsOf, Ordered, WellFormed, parts, tableOf, startOf, partOf}
+
+pub rising-never-falls : (n : ℕ) (ms : List ℕ) → Ordered _<_ n ms → Ordered _≤_ n ms
+rising-never-falls n [] r = tt
+rising-never-falls n (m ∷ ms) r = (omega arith, rising-never-falls m ms (r .1))
+
+last-above : (n : ℕ) (ms : List ℕ) → Ordered _≤_ n ms → n ≤ lastOf n ms
+unfolding lastOf
+last-above n [] u = omega arith
+last-above n (m ∷ ms) u = omega (arith, last-above m ms (u .1))
+
+module _ {A : Type 0} where
+  length-lengths : (n : ℕ) (ls : List (List A)) → length (lengths n ls) ≡ length ls
+  unfolding lengths
+  length-lengths n [] = refl
+  length-lengths n (l ∷ ls) = ap suc (length-lengths (n + length l) ls)
+
+  lengths-last : (n : ℕ) (ls : List (List A)) → lastOf n (lengths n ls) ≡ n + length (flatten ls)
+  unfolding lengths lastOf flatten
+  lengths-last n [] = omega arith
+  lengths-last n (l ∷ ls) = rw (lengths-last (n + length l) ls, length-append l (flatten ls)) (omega arith)
+
+  lengths-never-fall : (n : ℕ) (ls : List (List A)) → Ordered _≤_ n (lengths n ls)
+  unfolding lengths
+  lengths-never-fall n [] = tt
+  lengths-never-fall n (l ∷ ls) = (omega arith, lengths-never-fall (n + length l) ls)
+
+  -- lengths so far rise where no list is empty, and only there
+  lengths-rise : (n : ℕ) (ls : List (List A)) → Every (λ l. 1 ≤ length l) ls → Ordered _<_ n (lengths n ls)
+  unfolding lengths
+  lengths-rise n [] full = tt
+  lengths-rise n (l ∷ ls) full = (omega arith, lengths-rise (n + length l) ls (full .1))
+
+  lengths-rise-back : (n : ℕ) (ls : List (List A)) → Ordered _<_ n (lengths n ls) → Every (λ l. 1 ≤ length l) ls
+  unfolding lengths
+  lengths-rise-back n [] r = tt
+  lengths-rise-back n (l ∷ ls) r = (omega arith, lengths-rise-back (n + length l) ls (r .1))
+
+  -- a list is as long as the step of the lengths so far
+  lengths-at :
+      (n : ℕ) (ls : List (List A)) (k : ℕ)
+      → k < length ls → getD (n ∷ lengths n ls) k 0 + length (getD ls k []) ≡ getD (lengths n ls) k 0
+  unfolding lengths
+  lengths-at n [] k h = absurd (omega arith)
+  lengths-at n (l ∷ ls) zero h = refl
+  lengths-at n (l ∷ ls) (suc k) h = lengths-at (n + length l) ls k (omega arith)
+
+  -- what is joined behind s is cut into what it was
+  pub parts-joined : (n : ℕ) (s : List A) (ls : List (List A)) → length s ≡ n → parts n (s ++ flatten ls) (lengths n ls) ≡ ls
+  unfolding parts lengths flatten
+  parts-joined n s [] e = refl
+  parts-joined n s (l ∷ ls) e =
+      let e₂ : length (s ++ l) ≡ n + length l = rw (length-append, e) in
+      rw (← append-assoc s l (flatten ls), take-at (s ++ l) (flatten ls) (n + length l) e₂, drop-at s l n e, parts-joined (n + length l) (s ++ l) ls e₂)
+
+  pub joined-parts :
+      (n : ℕ) (l : List A) (ms : List ℕ) → Ordered _≤_ n ms → lastOf n ms ≡ length l → flatten (parts n l ms) ≡ drop n l
+  unfolding parts flatten lastOf
+  joined-parts n l [] u e = rw (e, drop-length)
+  joined-parts n l (m ∷ ms) u e =
+      let fits : m ≤ length l = omega (arith, last-above m ms (u .1)) in
+      let before : n ≤ length (take m l) = rw length-take-le (omega arith) in
+      rw (joined-parts m l ms (u .1) e, ← drop-append-le n (take m l) (drop m l) before, take-append-drop)
+
+  pub lengths-parts :
+      (n : ℕ) (l : List A) (ms : List ℕ) → Ordered _≤_ n ms → lastOf n ms ≤ length l → lengths n (parts n l ms) ≡ ms
+  unfolding parts lengths lastOf
+  lengths-parts n l [] u h = refl
+  lengths-parts n l (m ∷ ms) u h =
+      let fits : m ≤ length l = omega (arith, last-above m ms (u .1)) in
+      let reached : n + length (slice n m l) ≡ m = rw length-slice (omega arith) in
+      rw (reached, lengths-parts m l ms (u .1) h)
+
+  pub length-parts : (n : ℕ) (l : List A) (ms : List ℕ) → length (parts n l ms) ≡ length ms
+  unfolding parts
+  length-parts n l [] = refl
+  length-parts n l (m ∷ ms) = ap suc (length-parts m l ms)
+
+  pub part-at :
+      (n : ℕ) (l : List A) (ms : List ℕ) (k : ℕ) → getD (parts n l ms) k [] ≡ slice (getD (n ∷ ms) k 0) (getD ms k 0) l
+  unfolding parts
+  part-at n l [] k = sym (drop-nil (getD (n ∷ []) k 0))
+  part-at n l (m ∷ ms) zero = refl
+  part-at n l (m ∷ ms) (suc k) = part-at m l ms k
+
+-- the demand on no rows follows from the others
+pub well-formed :
+    {text : Bytes} {ends rows : List ℕ}
+    → Ordered _<_ 0 rows → lastOf 0 rows ≡ length ends → Ordered _≤_ 0 ends → lastOf 0 ends ≡ length text → WellFormed text ends rows
+unfolding lastOf
+well-formed {text} {ends} rise last-row never-fall last-end =
+    record {
+      rows-rise = rise;
+      last-row = last-row;
+      ends-never-fall = never-fall;
+      last-end = last-end;
+      no-rows = λ e.
+          let no-ends : ends ≡ [] = sym (take-all 0 ends (omega (arith, rw e at last-row))) in
+          (no-ends, sym (take-all 0 text (omega (arith, rw no-ends at last-end))));
+    }
+
+pub table-well-formed : (t : Table) → Every (λ cs. 1 ≤ length cs) t → WellFormed (textOf t) (endsOf t) (rowsOf t)
+table-well-formed t full =
+    well-formed (lengths-rise 0 t full) (rw (lengths-last, length-lengths) (omega arith))
+    (lengths-never-fall 0 (flatten t)) (rw lengths-last (omega arith))
+
+pub table-back : (t : Table) → tableOf (textOf t) (endsOf t) (rowsOf t) ≡ t
+unfolding tableOf
+table-back t = rw (parts-joined 0 [] (flatten t) refl, parts-joined 0 [] t refl)
+
+pub table-length : (text : Bytes) (ends rows : List ℕ) → length (tableOf text ends rows) ≡ length rows
+unfolding tableOf
+table-length text ends rows = length-parts 0 (parts 0 text ends) rows
+
+module _ {text : Bytes} {ends rows : List ℕ} (w : WellFormed text ends rows) where
+  rows-never-fall : Ordered _≤_ 0 rows
+  rows-never-fall = rising-never-falls 0 rows (w .rows-rise)
+
+  rows-fit : lastOf 0 rows ≡ length (parts 0 text ends)
+  rows-fit = rw length-parts (w .last-row)
+
+  pub fields-back : flatten (tableOf text ends rows) ≡ parts 0 text ends
+  unfolding tableOf
+  fields-back = joined-parts 0 (parts 0 text ends) rows rows-never-fall rows-fit
+
+  pub memory-back :
+      (textOf (tableOf text ends rows) ≡ text) × (endsOf (tableOf text ends rows) ≡ ends) × (rowsOf (tableOf text ends rows) ≡ rows)
+  unfolding tableOf
+  memory-back = (
+    rw (fields-back, joined-parts 0 text ends (w .ends-never-fall) (w .last-end)),
+    rw (fields-back, lengths-parts 0 text ends (w .ends-never-fall) (omega arith)),
+    lengths-parts 0 (parts 0 text ends) rows rows-never-fall (omega (arith, rows-fit)),
+  )
+
+  pub memory-fields : Every (λ cs. 1 ≤ length cs) (tableOf text ends rows)
+  memory-fields = lengths-rise-back 0 (tableOf text ends rows) (rw (memory-back .2) (w .rows-rise))
+
+  pub field-at :
+      (r k : ℕ)
+      → r < length rows → startOf rows r + k < getD rows r 0
+      → getD (getD (tableOf text ends rows) r []) k [] ≡ partOf text ends (startOf rows r + k)
+  unfolding tableOf partOf
+  field-at r k h within = rw (part-at, getD-drop, getD-take, part-at)
+
+  pub record-width : (r : ℕ) → r < length rows → startOf rows r + length (getD (tableOf text ends rows) r []) ≡ getD rows r 0
+  record-width r h = rw (memory-back .2) at (lengths-at 0 (tableOf text ends rows) r (rw table-length h))

@@ -1,0 +1,85 @@
+-- How a place moves: over one byte, and over a run of bytes.
+use Prim.Native.Nat.{ℕ, zero, suc, _+_, _-_}
+use native.Mathlib.Nat.{add-assoc, add-zero, add-suc}
+use native.Mathlib.Omega.{arith}
+use mathlib.Core.Path.{_≡_, refl, ap}
+use mathlib.Core.Bool.{Bool, true, false, cond}
+use mathlib.Core.List.{[], _∷_, _++_, append-assoc, append-nil}
+use lib.Dec.{eqb, eqb·suc-zero}
+use lib.ListN.{length, length-append}
+use lib.Seq.{take-at}
+use Rattle.format.specs.declared.Place.{Place}
+use Rattle.format.specs.Table.{Bytes}
+use Rattle.format.specs.Place.{place, lineFeeds, sinceLf, behind, placeOf}
+
+-- the place behind the byte b that stands at p
+unfoldable pub after : ℕ → Place → Place
+after b p = cond (eqb b 0x0A) (place (p .line .0 + 1) 1 (p .byte .0 + 1)) (place (p .line .0) (p .column .0 + 1) (p .byte .0 + 1))
+
+-- the place behind the run r that begins at p
+unfoldable pub past : Bytes → Place → Place
+past r p =
+    place (p .line .0 + lineFeeds r) (cond (eqb (lineFeeds r) 0) (p .column .0 + length r) (1 + length (sinceLf r))) (p .byte .0 + length r)
+
+past-byte : (b : ℕ) (p : Place) → past (b ∷ []) p ≡ after b p
+unfolding past after lineFeeds sinceLf
+past-byte b p = go (eqb b 0x0A) refl
+  where
+    go : (x : Bool) → eqb b 0x0A ≡ x → past (b ∷ []) p ≡ after b p
+    go true e = rw e
+    go false e = rw (e, add-zero (p .line .0))
+
+pub lineFeeds-append : (s r : Bytes) → lineFeeds (s ++ r) ≡ lineFeeds s + lineFeeds r
+unfolding lineFeeds
+lineFeeds-append [] r = omega arith
+lineFeeds-append (b ∷ s) r = rw (lineFeeds-append s r) (omega arith)
+
+sum-zero : (n m : ℕ) → eqb (n + m) 0 ≡ cond (eqb m 0) (eqb n 0) false
+sum-zero n zero = rw add-zero
+sum-zero n (suc m) = simp (add-suc, eqb·suc-zero)
+
+pub sinceLf-append : (s r : Bytes) → sinceLf (s ++ r) ≡ cond (eqb (lineFeeds r) 0) (sinceLf s ++ r) (sinceLf r)
+unfolding sinceLf lineFeeds
+sinceLf-append [] [] = refl
+sinceLf-append [] (b ∷ r) = go (eqb (lineFeeds (b ∷ r)) 0)
+  where
+    go : (x : Bool) → cond x (b ∷ r) (sinceLf r) ≡ cond x (b ∷ r) (cond x (b ∷ r) (sinceLf r))
+    go true = refl
+    go false = refl
+sinceLf-append (b ∷ s) r =
+    rw (sinceLf, lineFeeds-append (b ∷ s) r, sum-zero (lineFeeds (b ∷ s)) (lineFeeds r), sinceLf-append s r)
+    (go (eqb (lineFeeds r) 0) (eqb (lineFeeds (b ∷ s)) 0))
+  where
+    go :
+        (x y : Bool)
+        → cond (cond x y false) (b ∷ (s ++ r)) (cond x (sinceLf s ++ r) (sinceLf r)) ≡ cond x (cond y (b ∷ s) (sinceLf s) ++ r) (sinceLf r)
+    go true true = refl
+    go true false = refl
+    go false true = refl
+    go false false = refl
+
+pub behind-append : (s r : Bytes) → behind (s ++ r) ≡ past r (behind s)
+unfolding behind past
+behind-append s r = rw (lineFeeds-append, sinceLf-append, length-append, ← add-assoc, column (eqb (lineFeeds r) 0))
+  where
+    column : (x : Bool) → 1 + length (cond x (sinceLf s ++ r) (sinceLf r)) ≡ cond x (1 + length (sinceLf s) + length r) (1 + length (sinceLf r))
+    column true = simp (length-append, add-assoc)
+    column false = refl
+
+pub place-behind : (s g : Bytes) → placeOf (s ++ g) g ≡ behind s
+unfolding placeOf
+place-behind s g = rw (take-at s g (length (s ++ g) - length g) (rw length-append (omega arith)))
+
+pub place-first : (f : Bytes) → placeOf f f ≡ place 1 1 0
+unfolding behind lineFeeds sinceLf
+place-first f = place-behind [] f
+
+pub place-end : (f : Bytes) → placeOf f [] .byte .0 ≡ length f
+unfolding behind
+place-end f = rw append-nil at (ap (λ (p : Place). p .byte .0) (place-behind f []))
+
+pub place-run : (s r g : Bytes) → placeOf (s ++ (r ++ g)) g ≡ past r (placeOf (s ++ (r ++ g)) (r ++ g))
+place-run s r g = rw (place-behind s (r ++ g), ← append-assoc s r g, place-behind (s ++ r) g, behind-append)
+
+pub place-step : (s : Bytes) (b : ℕ) (g : Bytes) → placeOf (s ++ (b ∷ g)) g ≡ after b (placeOf (s ++ (b ∷ g)) (b ∷ g))
+place-step s b g = rw (← past-byte) (place-run s (b ∷ []) g)

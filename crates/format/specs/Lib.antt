@@ -1,0 +1,12 @@
+pub mod Answer
+pub mod Count
+pub mod Dialect
+pub mod Grammar
+pub mod House
+pub mod Memory
+pub mod Place
+pub mod Reading
+pub mod Refusal
+pub mod Rfc4180
+pub mod Table
+pub mod Written

@@ -1,0 +1,30 @@
+-- What a file is read as, and what becomes of it.
+use Prim.Native.Nat.{ℕ, _≤_, _<_}
+use mathlib.Core.Path.{_≡_}
+use lib.ListN.{length}
+use Rattle.format.specs.declared.Place.{Place}
+use Rattle.format.specs.Table.{Bytes, Table, Ending}
+use Rattle.format.specs.Dialect.{Dialect, dialect, Valid}
+use Rattle.format.specs.Grammar.{File}
+use Rattle.format.specs.House.{LastBreak, EmptyFile, fileLimit, Allowed}
+use Rattle.format.specs.Count.{report}
+use Rattle.format.specs.Place.{place, placeOf}
+use Rattle.format.specs.Refusal.{Refusal}
+
+-- `Reading d f t r`: in the dialect d the file f holds the table t, and r reports the leniencies used. The file limit is set aside, as demand 3 does.
+pub data Reading (d : Dialect) (f : Bytes) (t : Table) : ℕ → Type 0 where
+  nothing : EmptyFile f t → Reading d f t 0
+  something : {e : Ending} {r : ℕ} (p : File d f t e) → LastBreak e → Allowed d t → report p ≡ r → Reading d f t r
+
+-- over any two dialect bytes: a valid dialect, a file within the limit, and its reading
+pub record Accepted (delimiter sum : ℕ) (f : Bytes) (t : Table) (r : ℕ) : Type 0 where
+  pub valid : Valid delimiter sum
+  pub short : length f ≤ fileLimit
+  pub reading : Reading (dialect delimiter sum) f t r
+
+-- 1, else 2, which name the place 0, 0, 0; else 3 to 10
+pub data Refused (delimiter sum : ℕ) (f : Bytes) : ℕ → Place → Type 0 where
+  refusal-1 : (Valid delimiter sum → ⊥) → Refused delimiter sum f 1 (place 0 0 0)
+  refusal-2 : Valid delimiter sum → fileLimit < length f → Refused delimiter sum f 2 (place 0 0 0)
+  in-file : {n : ℕ} {found named : Bytes} {p : Place}
+      → Valid delimiter sum → length f ≤ fileLimit → Refusal (dialect delimiter sum) n f found named → placeOf f named ≡ p → Refused delimiter sum f n p

@@ -1,0 +1,53 @@
+// The shared types, all by value: places, and the answers of the calls.
+//
+// specs/Answer.antt gives the paper's number and values for each case of an answer.
+
+// Four kinds of number that cannot be mixed. Lines and columns count from 1, bytes and fields
+// from 0. A table's column is a field number and never a Column.
+pub struct Line(pub u32);
+
+pub struct Column(pub u32);
+
+pub struct ByteOffset(pub u32);
+
+pub struct FieldNumber(pub u32);
+
+pub struct Place {
+    pub line: Line,
+    pub column: Column,
+    pub byte: ByteOffset,
+}
+
+// What an accepted file holds. The fields are counted by the number that one more would have.
+pub struct Totals {
+    pub records: u32,
+    pub fields: FieldNumber,
+    pub text: u32,
+    pub report: u8,
+}
+
+// The reader's answer and the check's: accepted, or the refusal's number and the place it names.
+pub enum Answer {
+    Taken(Totals),
+    Declined(u8, Place),
+}
+
+// The writer's answer: the written length, or why nothing was written.
+pub enum Written {
+    Whole(u32),
+    UnknownMode,
+    Malformed,
+    Forbidden(ByteOffset),
+    LongContent(FieldNumber),
+    Uneven(u32),
+    LongFile,
+    NoRoom,
+}
+
+// The column search's answer: the column, or why there is none to give.
+pub enum Found {
+    At(FieldNumber),
+    Unfit,
+    Twice(FieldNumber),
+    Missing,
+}
