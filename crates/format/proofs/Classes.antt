@@ -193,6 +193,15 @@ unpadded d b c = go (d .allows blanks) (eqb b 0x20) (eqb (lastOf b c) 0x20)
     go true true z p q = p
     go false y z p q = refl
 
+pub unpadded-ends : (d : Dialect) (b : ℕ) (c : Content) → padded d (b ∷ c) ≡ false → (droppable d b ≡ false) × (droppable d (lastOf b c) ≡ false)
+unfolding padded
+unpadded-ends d b c = go (d .allows blanks) (eqb b 0x20) (eqb (lastOf b c) 0x20)
+  where
+    go : (x y z : Bool) → (x && (y || z)) ≡ false → ((x && y) ≡ false) × ((x && z) ≡ false)
+    go true true z p = absurd (true≢false p)
+    go true false z p = (refl, p)
+    go false y z p = (refl, refl)
+
 -- Two dialects of one delimiter.
 
 -- a byte that "bytes" allows and that is not the delimiter

@@ -1,0 +1,10 @@
+pub mod Cases
+pub mod Complete
+pub mod Faults
+pub mod Limits
+pub mod Numbers
+pub mod Rules
+pub mod Sound
+pub mod Theorems
+pub mod Verdicts
+pub mod Widths

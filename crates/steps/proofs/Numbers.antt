@@ -1,0 +1,55 @@
+-- Forms and classes by their numbers.
+use Prim.Native.Nat.{ℕ, zero, suc, min, _≤_}
+use mathlib.Core.Path.{_≡_, refl, sym}
+use mathlib.Core.Bool.{_||_}
+use native.Mathlib.Nat.{min-eq-right}
+use native.Mathlib.Omega.{arith}
+use lib.Dec.{eqb, leb}
+use borrow.Author.Tests.{ne-eqb, le-leb}
+use Rattle.steps.specs.Steps.{inQuotes, behindCr, isBlank}
+use Rattle.steps.specs.Numbers.{formNumber, classNumber, formOf, classFrom}
+
+abbrev six+ : ℕ → ℕ
+six+ n = suc (suc (suc (suc (suc (suc n)))))
+
+-- what holds of 0 to 5 and of each number from 6 on holds of every number
+by-number : (P : ℕ → Type 0) → P 0 → P 1 → P 2 → P 3 → P 4 → P 5 → ((n : ℕ) → P (six+ n)) → (n : ℕ) → P n
+by-number P p₀ p₁ p₂ p₃ p₄ p₅ p zero = p₀
+by-number P p₀ p₁ p₂ p₃ p₄ p₅ p (suc zero) = p₁
+by-number P p₀ p₁ p₂ p₃ p₄ p₅ p (suc (suc zero)) = p₂
+by-number P p₀ p₁ p₂ p₃ p₄ p₅ p (suc (suc (suc zero))) = p₃
+by-number P p₀ p₁ p₂ p₃ p₄ p₅ p (suc (suc (suc (suc zero)))) = p₄
+by-number P p₀ p₁ p₂ p₃ p₄ p₅ p (suc (suc (suc (suc (suc zero))))) = p₅
+by-number P p₀ p₁ p₂ p₃ p₄ p₅ p (suc (suc (suc (suc (suc (suc n)))))) = p n
+
+-- a number that stands for a form or a class, and what the rules ask of it
+pub form-at : (n : ℕ) → formNumber (formOf n) ≡ min n 6
+unfolding formOf
+form-at = by-number (λ n. formNumber (formOf n) ≡ min n 6) refl refl refl refl refl refl (λ n. sym (min-eq-right (omega arith)))
+
+pub class-at : (n : ℕ) → classNumber (classFrom n) ≡ min n 6
+unfolding classFrom
+class-at = by-number (λ n. classNumber (classFrom n) ≡ min n 6) refl refl refl refl refl refl (λ n. sym (min-eq-right (omega arith)))
+
+pub quotes-at : (n : ℕ) → inQuotes (formOf n) ≡ (eqb n 3 || eqb n 4)
+unfolding formOf
+quotes-at =
+    by-number (λ n. inQuotes (formOf n) ≡ (eqb n 3 || eqb n 4)) refl refl refl refl refl refl
+    (λ n. rw (ne-eqb (six+ n) 3 (omega arith), ne-eqb (six+ n) 4 (omega arith)))
+
+pub cr-at : (n : ℕ) → behindCr (formOf n) ≡ leb 6 n
+unfolding formOf
+cr-at = by-number (λ n. behindCr (formOf n) ≡ leb 6 n) refl refl refl refl refl refl (λ n. sym (le-leb 6 (six+ n) (omega arith)))
+
+pub blank-at : (n : ℕ) → isBlank (classFrom n) ≡ eqb n 1
+unfolding classFrom
+blank-at = by-number (λ n. isBlank (classFrom n) ≡ eqb n 1) refl refl refl refl refl refl (λ n. sym (ne-eqb (six+ n) 1 (omega arith)))
+
+-- n is none of the numbers below k
+abbrev pub NoneBelow : ℕ → ℕ → Type 0
+NoneBelow n zero = Unit {0}
+NoneBelow n (suc k) = NoneBelow n k × (n ≡ k → ⊥)
+
+pub past : (n k : ℕ) → NoneBelow n k → k ≤ n
+past n zero h = omega arith
+past n (suc k) h = omega (arith, past n k (h .0), h .1)
