@@ -5,6 +5,7 @@ pub mod Limits
 pub mod Numbers
 pub mod Rules
 pub mod Sound
+pub mod Tallies
 pub mod Theorems
 pub mod Verdicts
 pub mod Widths

@@ -1,0 +1,12 @@
+-- `pieces::Check::entered` meets its contract.
+use mathlib.Core.Path.{refl}
+use Rattle.pieces.specs.Check.{entered}
+use Rattle.pieces.proofs.Check.entered.Statement.{statement}
+use Rattle.pieces.proofs.Check.entered.Tie as tie
+
+returns : tie.Need-returns
+unfolding entered
+returns c = refl
+
+pub entered-spec : {M : Type 1} → statement M
+entered-spec = tie.close (tie.spec returns)

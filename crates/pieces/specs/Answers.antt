@@ -1,0 +1,39 @@
+-- What a check's answers mean.
+use Prim.Native.Nat.{ℕ}
+use mathlib.Core.Path.{_≡_}
+use mathlib.Core.List.{[], _++_, flatten}
+use lib.ListN.{length}
+use Rattle.format.specs.declared.Place.{Place}
+use Rattle.format.specs.declared.Totals.{Totals}
+use Rattle.format.specs.declared.Answer.{Answer, the-variants.Taken, the-variants.Declined}
+use Rattle.format.specs.Table.{Bytes, Table}
+use Rattle.format.specs.Memory.{textOf}
+use Rattle.format.specs.Reading.{Accepted, Refused}
+use Rattle.pieces.specs.declared.Check.{Check}
+use Rattle.pieces.specs.Check.{started, fedAll, asked}
+
+-- what a table comes to, with its report
+abbrev pub totalsOf : Table → ℕ → Totals
+totalsOf t r = record { records = length t; fields = record { 0 = length (flatten t) }; text = length (textOf t); report = r }
+
+-- the answer for the file f, over any two dialect bytes
+pub data Answers (b sum : ℕ) (f : Bytes) : Answer → Type 0 where
+  accepted : {t : Table} {r : ℕ} → Accepted b sum f t r → Answers b sum f (Taken (totalsOf t r))
+  refused : {n : ℕ} {p : Place} → Refused b sum f n p → Answers b sum f (Declined n p)
+
+-- A state stands for a dialect and the bytes f: whatever comes next, asking then gives the answer for all of it as one whole file.
+abbrev pub Stands : ℕ → ℕ → Bytes → Check → Type 0
+Stands b sum f c = (g : Bytes) → Answers b sum (f ++ g) (asked (fedAll c g))
+
+-- what start, feed and ask promise: the result, for every state; and what it means of a state that stands for a dialect and bytes
+pub record Started (b sum : ℕ) (c : Check) : Type 0 where
+  pub result : c ≡ started b sum
+  pub stands : Stands b sum [] c
+
+pub record Fed (c : Check) (piece : Bytes) (e : Check) : Type 0 where
+  pub result : e ≡ fedAll c piece
+  pub stands : (b sum : ℕ) (f : Bytes) → Stands b sum f c → Stands b sum (f ++ piece) e
+
+pub record Asked (c : Check) (a : Answer) : Type 0 where
+  pub result : a ≡ asked c
+  pub answers : (b sum : ℕ) (f : Bytes) → Stands b sum f c → Answers b sum f a
