@@ -19,7 +19,7 @@ last-above n [] u = omega arith
 last-above n (m ∷ ms) u = omega (arith, last-above m ms (u .1))
 
 module _ {A : Type 0} where
-  length-lengths : (n : ℕ) (ls : List (List A)) → length (lengths n ls) ≡ length ls
+  pub length-lengths : (n : ℕ) (ls : List (List A)) → length (lengths n ls) ≡ length ls
   unfolding lengths
   length-lengths n [] = refl
   length-lengths n (l ∷ ls) = ap suc (length-lengths (n + length l) ls)

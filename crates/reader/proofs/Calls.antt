@@ -1,0 +1,100 @@
+-- Laws of the calls: any two outcomes coincide, office and auditor, and the table that comes out.
+use Prim.Native.Nat.{ℕ}
+use native.Mathlib.Omega.{arith}
+use mathlib.Core.Path.{_≡_, refl, sym, ap, subst, _∙_}
+use mathlib.Core.List.{List, flatten}
+use lib.ListN.{length, take}
+use lib.Seq.{take-append-seam}
+use Rattle.format.specs.declared.Totals.{Totals}
+use Rattle.format.specs.declared.Answer.{Answer, the-variants.Taken, the-variants.Declined}
+use Rattle.format.specs.Table.{Bytes, Table}
+use Rattle.format.specs.Memory.{textOf, endsOf, rowsOf, WellFormed, tableOf}
+use Rattle.format.specs.Place.{place}
+use Rattle.format.specs.Reading.{Accepted}
+use Rattle.format.proofs.Held.{reading-held}
+use Rattle.format.proofs.Memory.{length-lengths, table-well-formed, table-back}
+use Rattle.steps.proofs.Theorems.{one-accepted, one-refused, never-both, office-auditor}
+use Rattle.pieces.specs.Answers.{totalsOf}
+use Rattle.reader.specs.Filling.{over}
+use Rattle.reader.specs.Read.{Room, NoRoom, no-text, no-ends, no-rows, Outcome}
+
+-- the tests of room exclude each other
+module _ {t : Table} {text : Bytes} {ends rows : List ℕ} where
+  one-room : {n m : ℕ} → NoRoom t text ends rows n → NoRoom t text ends rows m → n ≡ m
+  one-room (no-text h) (no-text i) = refl
+  one-room (no-text h) (no-ends i j) = absurd (omega arith)
+  one-room (no-text h) (no-rows i j k) = absurd (omega arith)
+  one-room (no-ends g h) (no-text i) = absurd (omega arith)
+  one-room (no-ends g h) (no-ends i j) = refl
+  one-room (no-ends g h) (no-rows i j k) = absurd (omega arith)
+  one-room (no-rows f g h) (no-text i) = absurd (omega arith)
+  one-room (no-rows f g h) (no-ends i j) = absurd (omega arith)
+  one-room (no-rows f g h) (no-rows i j k) = refl
+
+  room-or-not : {n : ℕ} → Room t text ends rows → NoRoom t text ends rows n → ⊥
+  room-or-not r (no-text h) = omega (arith, r .for-text)
+  room-or-not r (no-ends g h) = omega (arith, r .for-ends)
+  room-or-not r (no-rows f g h) = omega (arith, r .for-rows)
+
+module _ {b sum : ℕ} {f text : Bytes} {ends rows : List ℕ} where
+  -- any two outcomes that the promise allows are equal, buffers included
+  pub one-outcome :
+      {a a′ : Answer} {x x′ : Bytes} {y y′ z z′ : List ℕ}
+      → Outcome b sum f text ends rows a x y z → Outcome b sum f text ends rows a′ x′ y′ z′ → (a ≡ a′) × (x ≡ x′) × (y ≡ y′) × (z ≡ z′)
+  one-outcome (Outcome.refused h) (Outcome.refused i) = let e = one-refused h i in ((λ j. Declined (e .0 j) (e .1 j)), refl, refl, refl)
+  one-outcome (Outcome.refused h) (Outcome.no-room i k) = absurd (never-both i h)
+  one-outcome (Outcome.refused h) (Outcome.filled i k) = absurd (never-both i h)
+  one-outcome (Outcome.no-room h k) (Outcome.refused i) = absurd (never-both h i)
+  one-outcome (Outcome.no-room {n} h k) (Outcome.no-room i l) =
+      let e = one-accepted h i in
+      let s = one-room (subst (λ (t : Table). NoRoom t text ends rows n) (e .0) k) l in
+      (ap (λ (m : ℕ). Declined m (place 0 0 0)) s, refl, refl, refl)
+  one-outcome (Outcome.no-room h k) (Outcome.filled {t} i l) =
+      absurd (room-or-not (subst (λ (u : Table). Room u text ends rows) (one-accepted i h .0) l) k)
+  one-outcome (Outcome.filled h k) (Outcome.refused i) = absurd (never-both h i)
+  one-outcome (Outcome.filled h k) (Outcome.no-room i l) =
+      absurd (room-or-not (subst (λ (u : Table). Room u text ends rows) (one-accepted h i .0) k) l)
+  one-outcome (Outcome.filled h k) (Outcome.filled i l) =
+      let e = one-accepted h i in (
+        (λ j. Taken (totalsOf (e .0 j) (e .1 j))),
+        ap (λ (t : Table). over (textOf t) text) (e .0),
+        ap (λ (t : Table). over (endsOf t) ends) (e .0),
+        ap (λ (t : Table). over (rowsOf t) rows) (e .0),
+      )
+
+-- `read` with comma that reports 0 means that `read_strict` answers the same, with the same buffers
+pub office-auditor-read :
+    {sum : ℕ} {f text : Bytes} {ends rows : List ℕ} {s : Totals} {a : Answer} {x x′ : Bytes} {y y′ z z′ : List ℕ}
+    → Outcome 0x2C sum f text ends rows (Taken s) x y z → s .report ≡ 0 → Outcome 0x2C 0 f text ends rows a x′ y′ z′
+    → (a ≡ Taken s) × (x′ ≡ x) × (y′ ≡ y) × (z′ ≡ z)
+office-auditor-read {sum} {f} (Outcome.filled {t} {r} h k) e o =
+    let strict = office-auditor (subst (Accepted 0x2C sum f t) e h) in
+    let same = one-outcome o (Outcome.filled strict k) in
+    (same .0 ∙ ap (λ (n : ℕ). Taken (totalsOf t n)) (sym e), same .1, same .2, same .3)
+
+-- the used part of the three buffers is well formed, and is the grammar's table
+pub record Holding (b sum : ℕ) (f : Bytes) (s : Totals) (x : Bytes) (y z : List ℕ) : Type 0 where
+  pub table : Table
+  pub accepted : Accepted b sum f table (s .report)
+  pub table-is : tableOf (take (s .text) x) (take (s .fields .0) y) (take (s .records) z) ≡ table
+  pub formed : WellFormed (take (s .text) x) (take (s .fields .0) y) (take (s .records) z)
+
+pub read-table :
+    {b sum : ℕ} {f text : Bytes} {ends rows : List ℕ} {s : Totals} {x : Bytes} {y z : List ℕ}
+    → Outcome b sum f text ends rows (Taken s) x y z → Holding b sum f s x y z
+read-table {b} {sum} {text} {ends} {rows} (Outcome.filled {t} h k) =
+    record {
+      table = t;
+      accepted = h;
+      table-is = rw (used-text, used-ends, used-rows) (table-back t);
+      formed = rw (used-text, used-ends, used-rows) (table-well-formed t (reading-held (h .reading) .some-field));
+    }
+  where
+    used-text : take (length (textOf t)) (over (textOf t) text) ≡ textOf t
+    used-text = take-append-seam (textOf t) _
+
+    used-ends : take (length (flatten t)) (over (endsOf t) ends) ≡ endsOf t
+    used-ends = rw (← length-lengths 0 (flatten t)) (take-append-seam (endsOf t) _)
+
+    used-rows : take (length t) (over (rowsOf t) rows) ≡ rowsOf t
+    used-rows = rw (← length-lengths 0 t) (take-append-seam (rowsOf t) _)

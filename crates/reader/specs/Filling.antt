@@ -1,0 +1,19 @@
+-- A buffer that is filled from the front, over any type of element.
+use Prim.Native.Nat.{ℕ, _+_, _≤_}
+use mathlib.Core.Path.{_≡_}
+use mathlib.Core.List.{List, _++_}
+use lib.ListN.{length, drop}
+use lib.Seq.{sets}
+
+-- the old buffer with the new list over its front
+abbrev pub over : {A : Type 0} → List A → List A → List A
+over new old = new ++ drop (length new) old
+
+-- a buffer at the place of its next element, with what is still to be written there and the buffer as it is to be in full; and there is room
+pub record Filling {A : Type 0} (buf : List A) (at : ℕ) (rest full : List A) : Type 0 where
+  pub room : at + length rest ≤ length buf
+  pub fills : sets buf at rest ≡ full
+
+-- a buffer goes on as another: whatever the first is to be in full, the second is to be
+abbrev pub Onward : {A : Type 0} → List A → ℕ → List A → List A → ℕ → List A → Type 0
+Onward {A} buf at rest buf′ at′ rest′ = (full : List A) → Filling buf at rest full → Filling buf′ at′ rest′ full

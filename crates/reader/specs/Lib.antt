@@ -1,0 +1,4 @@
+pub mod Fill
+pub mod Filling
+pub mod Read
+pub mod Walk

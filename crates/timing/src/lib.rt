@@ -1,0 +1,37 @@
+// The strict check of a whole file, and the strict read, under names that a benchmark links.
+ghost use mathlib.Core.Path.{_≡_};
+ghost use Rattle.timing.specs.Timing.{recordsOf, CheckTimed, ReadTimed};
+use format::Answer;
+use pieces::Check;
+
+// Checks a file, and says how many records it has; 0 where it is refused.
+#[no_mangle]
+pub extern "C" fn siprovault_timing_check(file: &[u8]) -> u32
+    ensures { λ r. ⌜ CheckTimed (now (file .entry)) r ⌝ }
+{
+    let answer = Check::start(b',', 0).feed(file).ask();
+    records(answer)
+}
+
+// Reads a file, and says how many records it has; 0 where it is refused.
+#[no_mangle]
+pub extern "C" fn siprovault_timing_read(
+    file: &[u8],
+    text: &mut [u8],
+    ends: &mut [u32],
+    rows: &mut [u32],
+) -> u32
+    ensures { λ r. ⌜ ReadTimed (now (file .entry)) (now (text .entry)) (now (ends .entry)) (now (rows .entry)) r (now (text .exit)) (now (ends .exit)) (now (rows .exit)) ⌝ }
+{
+    let answer = reader::read_strict(file, text, ends, rows);
+    records(answer)
+}
+
+fn records(answer: Answer) -> u32
+    ensures { λ r. ⌜ r ≡ recordsOf answer ⌝ }
+{
+    match answer {
+        Answer::Taken(t) => t.records,
+        Answer::Declined(_, _) => 0,
+    }
+}
