@@ -18,6 +18,14 @@ unfolding lastOf
 last-above n [] u = omega arith
 last-above n (m ∷ ms) u = omega (arith, last-above m ms (u .1))
 
+-- an entry is at least the one before it, and at most the last
+pub entry-within :
+    (n : ℕ) (ms : List ℕ) (k : ℕ) → Ordered _≤_ n ms → k < length ms → (getD (n ∷ ms) k 0 ≤ getD ms k 0) × (getD ms k 0 ≤ lastOf n ms)
+unfolding lastOf
+entry-within n [] k u h = absurd (omega arith)
+entry-within n (m ∷ ms) zero u h = (u .0, last-above m ms (u .1))
+entry-within n (m ∷ ms) (suc k) u h = entry-within m ms k (u .1) (omega arith)
+
 module _ {A : Type 0} where
   pub length-lengths : (n : ℕ) (ls : List (List A)) → length (lengths n ls) ≡ length ls
   unfolding lengths
@@ -143,6 +151,13 @@ module _ {text : Bytes} {ends rows : List ℕ} (w : WellFormed text ends rows) w
 
   pub memory-fields : Every (λ cs. 1 ≤ length cs) (tableOf text ends rows)
   memory-fields = lengths-rise-back 0 (tableOf text ends rows) (rw (memory-back .2) (w .rows-rise))
+
+  -- a record's fields are among the ends, and a field's part is in the text
+  pub row-within : (r : ℕ) → r < length rows → (startOf rows r ≤ getD rows r 0) × (getD rows r 0 ≤ length ends)
+  row-within r h = rw (w .last-row) at (entry-within 0 rows r rows-never-fall h)
+
+  pub end-within : (k : ℕ) → k < length ends → (startOf ends k ≤ getD ends k 0) × (getD ends k 0 ≤ length text)
+  end-within k h = rw (w .last-end) at (entry-within 0 ends k (w .ends-never-fall) h)
 
   pub field-at :
       (r k : ℕ)

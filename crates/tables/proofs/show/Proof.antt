@@ -1,0 +1,125 @@
+-- `tables::show` meets its contract.
+use Prim.Native.Nat.{_+_, _<_}
+use native.Mathlib.Omega.{arith}
+use lib.ListN.{length}
+use denote.Ref.{now}
+use borrow.Author.Tests.{not-true, not-false}
+use Rattle.format.specs.Memory.{WellFormed}
+use Rattle.format.proofs.Memory.{row-within, end-within}
+use Rattle.tables.specs.Shown.{malformed}
+use Rattle.tables.proofs.Showing.{lacks-record, lacks-column, shows}
+use borrow.Author.Needs.{needs}
+use Rattle.tables.proofs.show.Statement.{statement}
+use Rattle.tables.proofs.show.Tie as tie
+
+-- behind the first test the table is well formed
+abbrev begin : tie.Else1 → tie.Start
+begin e = e .before .before .before .before .before .before
+
+formed : (e : tie.Else1) → WellFormed (now (begin e .args .text)) (now (begin e .args .ends)) (now (begin e .args .rows))
+formed e = e .before .is-well-formed .ensures .if-true (not-false (e .before .is-well-formed .result) (e .if1 .left))
+
+-- behind the last test the field's end is there
+field-in : (c : tie.Else3) → c .before .before .start-of .result + begin (c .before .before .before .before) .args .column < length (now (begin (c .before .before .before .before) .args .ends))
+field-in c =
+    let t = c .before .before .before in
+    omega (arith, c .if3 .left, row-within (formed (t .before)) _ (t .if2 .left) .1)
+
+is-well-formed-requires : tie.Need-is-well-formed-requires
+is-well-formed-requires c κs = search needs
+
+returns : tie.Need-returns
+returns c = malformed (c .before .is-well-formed .ensures .if-false (not-true (c .before .is-well-formed .result) (c .if1 .taken)))
+
+returns-2 : tie.Need-returns-2
+returns-2 c = lacks-record (formed (c .before)) (c .if2 .taken)
+
+start-of-requires : tie.Need-start-of-requires
+start-of-requires c κs = search needs
+
+mul-next : tie.Need-mul-next
+mul-next c = search needs
+
+shared-slice-read-next : tie.Need-shared-slice-read-next
+shared-slice-read-next c = search needs
+
+cast-next : tie.Need-cast-next
+cast-next c = omega (arith, c .shared-slice-known5 .given (begin (c .before .before .before) .args .record))
+
+sub-if3 : tie.Need-sub-if3
+sub-if3 c =
+    let t = c .before .before in
+    rw (c .before .start-of .ensures) (row-within (formed (t .before)) _ (t .if2 .left) .0)
+
+returns-3 : tie.Need-returns-3
+returns-3 c =
+    let o = c .before .before in
+    let t = o .before in
+    lacks-column (formed (t .before)) (t .if2 .left) (rw (o .start-of .ensures) at (c .if3 .taken))
+
+add-k : tie.Need-add-k
+add-k c = omega (arith, c .if3 .left, c .before .shared-slice-known5 .given (begin (c .before .before .before .before) .args .record))
+
+start-of-requires-2 : tie.Need-start-of-requires-2
+start-of-requires-2 c κs = field-in c
+
+mul-end : tie.Need-mul-end
+mul-end c =
+    let e = c .before in
+    omega (arith, e .if3 .left, e .before .shared-slice-known5 .given (begin (e .before .before .before .before) .args .record))
+
+shared-slice-read-end : tie.Need-shared-slice-read-end
+shared-slice-read-end c = field-in (c .before .before)
+
+cast-end : tie.Need-cast-end
+cast-end c =
+    let o = c .before .before .before .before in
+    omega (arith, c .shared-slice-known6 .given (o .start-of .result + begin (o .before .before) .args .column))
+
+sub-result : tie.Need-sub-result
+sub-result c =
+    let e = c .before .before in
+    rw (c .before .start-of2 .ensures) (end-within (formed (e .before .before .before .before)) _ (field-in e) .0)
+
+part-result-start : tie.Need-part-result-start
+part-result-start c =
+    let e = c .before .before in
+    let x = end-within (formed (e .before .before .before .before)) _ (field-in e) in
+    search needs
+
+part-result-end : tie.Need-part-result-end
+part-result-end c =
+    let e = c .before .before in
+    let x = end-within (formed (e .before .before .before .before)) _ (field-in e) .1 in
+    search needs
+
+returns-4 : tie.Need-returns-4
+returns-4 c =
+    let s = c .before .before in
+    let e = s .before in
+    let o = e .before .before in
+    let t = o .before in
+    shows (formed (t .before)) (o .start-of .ensures) (s .start-of2 .ensures) (t .if2 .left) (e .if3 .left)
+
+pub show-spec : {M : Type 1} → statement M
+show-spec =
+    tie.close
+    (tie.spec
+    is-well-formed-requires
+    returns
+    returns-2
+    start-of-requires
+    mul-next
+    shared-slice-read-next
+    cast-next
+    sub-if3
+    returns-3
+    add-k
+    start-of-requires-2
+    mul-end
+    shared-slice-read-end
+    cast-end
+    sub-result
+    part-result-start
+    part-result-end
+    returns-4)
