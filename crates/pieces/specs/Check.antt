@@ -1,4 +1,4 @@
--- The check's state: what a byte does to it, and what it answers, for every state. `Stands` says what that means.
+-- The check's state: what a byte does to it, and what it answers, for every state. `Answers` says what that means.
 use Prim.Native.Nat.{ℕ, _+_, min}
 use mathlib.Core.Bool.{Bool, true, false, cond, not, _&&_, _||_}
 use mathlib.Core.List.{[], _∷_}
@@ -20,7 +20,7 @@ use Rattle.pieces.specs.declared.Check.{Check}
 
 -- counters stop here: one past the file limit
 abbrev pub counterLimit : ℕ
-counterLimit = 16777217
+counterLimit = fileLimit + 1
 
 -- the sum of two counters
 abbrev pub plus : ℕ → ℕ → ℕ
