@@ -6,7 +6,7 @@ use mathlib.Core.List.{_∷_}
 use mathlib.Core.Logic.{_⊎_, inl, inr}
 use native.Mathlib.Omega.{arith}
 use lib.Dec.{T, leb, eqb, eqb-refl}
-use borrow.Author.Tests.{le-leb, leb-true, leb-false, eqb-true, eqb-false, lt-leb, ne-eqb}
+use borrow.Author.Tests.{le-leb, leb-true, leb-false, eqb-true, eqb-false, lt-leb, eq-eqb, ne-eqb}
 use Rattle.format.specs.Table.{Bytes, Content, lastOf}
 use Rattle.format.specs.Dialect.{blanks, bytes, Dialect, strict, Class, text, blank, delimiter, quote, CR, LF, forbidden, classOf, delimits, isPrintable, isWide}
 use Rattle.format.specs.Grammar.{padded, Inside}
@@ -25,7 +25,7 @@ pub data View (d : Dialect) (b : ℕ) : Class → Type 0 where
   is-LF : b ≡ 0x0A → View d b LF
   is-blank : b ≡ 0x20 → T (d .allows blanks) → isMark d b ≡ false → View d b blank
   is-text : isMark d b ≡ false → droppable d b ≡ false → View d b text
-  is-forbidden : View d b forbidden
+  is-forbidden : isMark d b ≡ false → View d b forbidden
 
 -- a test, with what it says
 pub decide : {A : Type 0} (P : A → Type 0) (x : Bool) {u v : A} → (x ≡ true → P u) → (x ≡ false → P v) → P (cond x u v)
@@ -52,7 +52,7 @@ view d b =
     (λ e. decide P (d .allows blanks) (λ k. is-blank (eqb-true b 0x20 e) (rw k tt) mark) (λ k. is-text mark (rw k)))
     λ e₅.
     decide P (isPrintable b) (λ e. is-text mark (not-blank d b e₅)) λ e₆.
-    decide P (isWide b) (λ e. decide P (d .allows bytes) (λ k. is-text mark (not-blank d b e₅)) (λ k. is-forbidden)) (λ e. is-forbidden)
+    decide P (isWide b) (λ e. decide P (d .allows bytes) (λ k. is-text mark (not-blank d b e₅)) (λ k. is-forbidden mark)) (λ e. is-forbidden mark)
 
 module _ (d : Dialect) (b : ℕ) where
   pub quote-is : classOf d b ≡ quote → b ≡ 0x22
@@ -100,6 +100,35 @@ module _ (d : Dialect) (b : ℕ) where
 
       go : View d b blank → (isMark d b ≡ false) × (droppable d b ≡ true)
       go (is-blank q t m) = (m, rw q (on (d .allows blanks) t))
+
+-- the classes of marks
+abbrev pub marks : Class → Bool
+marks text = false
+marks blank = false
+marks delimiter = true
+marks quote = true
+marks CR = true
+marks LF = true
+marks forbidden = false
+
+pub mark-class : (d : Dialect) (b : ℕ) → isMark d b ≡ marks (classOf d b)
+mark-class d b = go (view d b)
+  where
+    same : (n : ℕ) → eqb n n ≡ true
+    same n = eq-eqb n n refl
+
+    or-true : (x : Bool) → (x || true) ≡ true
+    or-true true = refl
+    or-true false = refl
+
+    go : {x : Class} → View d b x → isMark d b ≡ marks x
+    go (is-delimiter q) = rw (q, same (d .delimiterByte))
+    go (is-quote q) = rw (q, or-true (eqb 0x22 (d .delimiterByte)))
+    go (is-CR q) = rw (q, or-true (eqb 0x0D (d .delimiterByte)))
+    go (is-LF q) = rw (q, or-true (eqb 0x0A (d .delimiterByte)))
+    go (is-blank q t m) = m
+    go (is-text m n) = m
+    go (is-forbidden m) = m
 
 -- and back, where the delimiter is one of the four
 module _ (d : Dialect) (valid : T (delimits (d .delimiterByte))) where

@@ -2,11 +2,16 @@ pub mod Classes
 pub mod Demand3
 pub mod Dialects
 pub mod Ended
+pub mod Filling
+pub mod First
 pub mod Forms
 pub mod Held
+pub mod Holding
 pub mod Length
 pub mod Leniencies
+pub mod Lines
 pub mod Memory
+pub mod Numbers
 pub mod Places
 pub mod Rfc
 pub mod Tally

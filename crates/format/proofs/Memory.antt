@@ -1,22 +1,30 @@
 -- Tables in memory: a table comes back from its memory, a well-formed memory from its table, and where records and fields stand.
 -- Fields of text by ends and records of fields by rows are both lists cut into parts: each law of parts is stated once.
-use Prim.Native.Nat.{ℕ, zero, suc, _+_, _≤_, _<_}
+use Prim.Native.Nat.{ℕ, zero, suc, _+_, _-_, _≤_, _<_}
+use native.Mathlib.Numerals.{add-one}
 use native.Mathlib.Omega.{arith}
-use mathlib.Core.Path.{_≡_, refl, sym, ap}
-use mathlib.Core.List.{List, [], _∷_, _++_, append-assoc, flatten}
-use lib.ListN.{length, take, drop, getD, length-append, take-append-drop}
-use lib.Seq.{slice, length-slice, length-take-le, take-all, take-at, drop-at, drop-nil, drop-length, drop-append-le, getD-take, getD-drop}
+use mathlib.Core.Path.{_≡_, refl, sym, ap, _∙_}
+use mathlib.Core.List.{List, [], _∷_, _++_, append-assoc, flatten, map}
+use lib.ListN.{length, take, drop, getD, length-append, take-append-drop, drop-of-length-le}
+use lib.Seq.{slice, drop-cons, length-slice, length-take-le, take-nil, take-all, take-at, drop-at, drop-nil, drop-length, drop-append-le, getD-take, getD-drop}
 use Rattle.format.specs.Table.{Bytes, Table, Every, lastOf}
-use Rattle.format.specs.Memory.{lengths, textOf, endsOf, rowsOf, Ordered, WellFormed, parts, tableOf, startOf, partOf}
+use Rattle.format.specs.House.{widthOf}
+use Rattle.format.specs.Memory.{lengths, textOf, endsOf, rowsOf, Ordered, WellFormed, parts, gaps, tableOf, startOf, partOf}
 
 pub rising-never-falls : (n : ℕ) (ms : List ℕ) → Ordered _<_ n ms → Ordered _≤_ n ms
 rising-never-falls n [] r = tt
 rising-never-falls n (m ∷ ms) r = (omega arith, rising-never-falls m ms (r .1))
 
-last-above : (n : ℕ) (ms : List ℕ) → Ordered _≤_ n ms → n ≤ lastOf n ms
+pub last-above : (n : ℕ) (ms : List ℕ) → Ordered _≤_ n ms → n ≤ lastOf n ms
 unfolding lastOf
 last-above n [] u = omega arith
 last-above n (m ∷ ms) u = omega (arith, last-above m ms (u .1))
+
+-- the last number is at most what all are
+pub last-most : (b n : ℕ) (ms : List ℕ) → n ≤ b → ((i : ℕ) → getD ms i 0 ≤ b) → lastOf n ms ≤ b
+unfolding lastOf
+last-most b n [] h f = h
+last-most b n (m ∷ ms) h f = last-most b m ms (f 0) (λ i. f (suc i))
 
 -- an entry is at least the one before it, and at most the last
 pub entry-within :
@@ -93,12 +101,54 @@ module _ {A : Type 0} where
   length-parts n l [] = refl
   length-parts n l (m ∷ ms) = ap suc (length-parts m l ms)
 
+  pub part-lengths :
+      (n : ℕ) (l : List A) (ms : List ℕ) → Ordered _≤_ n ms → lastOf n ms ≤ length l → map length (parts n l ms) ≡ gaps n ms
+  unfolding parts gaps lastOf
+  part-lengths n l [] u h = refl
+  part-lengths n l (m ∷ ms) u h =
+      let fits : m ≤ length l = omega (arith, last-above m ms (u .1)) in
+      rw (length-slice n m l fits, part-lengths m l ms (u .1) h)
+
   pub part-at :
       (n : ℕ) (l : List A) (ms : List ℕ) (k : ℕ) → getD (parts n l ms) k [] ≡ slice (getD (n ∷ ms) k 0) (getD ms k 0) l
   unfolding parts
   part-at n l [] k = sym (drop-nil (getD (n ∷ []) k 0))
   part-at n l (m ∷ ms) zero = refl
   part-at n l (m ∷ ms) (suc k) = part-at m l ms k
+
+  -- the two ways to say a part in the middle
+  take-from : (f t : ℕ) (l : List A) → take (t - f) (drop f l) ≡ slice f t l
+  take-from zero t l = let e : t - 0 ≡ t = omega arith in ap (λ (n : ℕ). take n l) e
+  take-from (suc f) t [] = take-nil (t - suc f) ∙ ap (λ (m : List A). drop (suc f) m) (sym (take-nil t))
+  take-from (suc f) zero (x ∷ l) = let e : 0 - suc f ≡ 0 = omega arith in ap (λ (n : ℕ). take n (drop f l)) e
+  take-from (suc f) (suc t) (x ∷ l) = let e : suc t - suc f ≡ t - f = omega arith in ap (λ (n : ℕ). take n (drop f l)) e ∙ take-from f t l
+
+-- the gaps, one after the other
+pub gaps-more : (n i : ℕ) (ms : List ℕ) → i < length ms → gaps n (drop i ms) ≡ (getD ms i 0 - n) ∷ gaps (getD ms i 0) (drop (i + 1) ms)
+unfolding gaps
+gaps-more n i ms h = rw (add-one, drop-cons ms i 0 h)
+
+pub gaps-none : (n i : ℕ) (ms : List ℕ) → length ms ≤ i → gaps n (drop i ms) ≡ []
+unfolding gaps
+gaps-none n i ms h = rw (drop-of-length-le ms h)
+
+pub ordered-more :
+    (R : ℕ → ℕ → Type 0) (n i : ℕ) (ms : List ℕ) → i < length ms → Ordered R n (drop i ms) → R n (getD ms i 0) × Ordered R (getD ms i 0) (drop (i + 1) ms)
+ordered-more R n i ms h o = rw add-one (rw (drop-cons ms i 0 h) at o)
+
+pub last-more : (n i : ℕ) (ms : List ℕ) → i < length ms → lastOf n (drop i ms) ≡ lastOf (getD ms i 0) (drop (i + 1) ms)
+unfolding lastOf
+last-more n i ms h = rw (add-one, drop-cons ms i 0 h)
+
+pub last-none : (n i : ℕ) (ms : List ℕ) → length ms ≤ i → lastOf n (drop i ms) ≡ n
+unfolding lastOf
+last-none n i ms h = rw (drop-of-length-le ms h)
+
+-- strictly rising numbers are no more than the last
+pub rising-count : (n : ℕ) (ms : List ℕ) → Ordered _<_ n ms → n + length ms ≤ lastOf n ms
+unfolding lastOf
+rising-count n [] r = omega arith
+rising-count n (m ∷ ms) r = omega (arith, rising-count m ms (r .1))
 
 -- the demand on no rows follows from the others
 pub well-formed :
@@ -124,6 +174,16 @@ table-well-formed t full =
 pub table-back : (t : Table) → tableOf (textOf t) (endsOf t) (rowsOf t) ≡ t
 unfolding tableOf
 table-back t = rw (parts-joined 0 [] (flatten t) refl, parts-joined 0 [] t refl)
+
+-- field k of the text that the ends cut is its part, and the part runs from where it begins to its end
+module _ (text : Bytes) (ends : List ℕ) (k : ℕ) where
+  pub field-part : getD (parts 0 text ends) k [] ≡ partOf text ends k
+  unfolding partOf
+  field-part = part-at 0 text ends k
+
+  pub part-from : partOf text ends k ≡ take (getD ends k 0 - startOf ends k) (drop (startOf ends k) text)
+  unfolding partOf
+  part-from = sym (take-from (startOf ends k) (getD ends k 0) text)
 
 pub table-length : (text : Bytes) (ends rows : List ℕ) → length (tableOf text ends rows) ≡ length rows
 unfolding tableOf
@@ -165,6 +225,26 @@ module _ {text : Bytes} {ends rows : List ℕ} (w : WellFormed text ends rows) w
       → getD (getD (tableOf text ends rows) r []) k [] ≡ partOf text ends (startOf rows r + k)
   unfolding tableOf partOf
   field-at r k h within = rw (part-at, getD-drop, getD-take, part-at)
+
+  -- how many fields there are, and how long fields and records are
+  pub fields-length : length (flatten (tableOf text ends rows)) ≡ length ends
+  fields-length = rw (fields-back, length-parts)
+
+  pub field-lengths : map length (flatten (tableOf text ends rows)) ≡ gaps 0 ends
+  field-lengths = rw (fields-back, part-lengths 0 text ends (w .ends-never-fall) (omega (arith, w .last-end)))
+
+  pub record-lengths : map length (tableOf text ends rows) ≡ gaps 0 rows
+  unfolding tableOf
+  record-lengths = part-lengths 0 (parts 0 text ends) rows rows-never-fall (omega (arith, rows-fit))
+
+  -- the first record's fields
+  pub width-at : widthOf (tableOf text ends rows) ≡ getD rows 0 0
+  unfolding tableOf parts lastOf
+  width-at = go rows (w .rows-rise) (w .last-row)
+    where
+      go : (ms : List ℕ) → Ordered _<_ 0 ms → lastOf 0 ms ≡ length ends → widthOf (parts 0 (parts 0 text ends) ms) ≡ getD ms 0 0
+      go [] o e = refl
+      go (m ∷ ms) o e = length-take-le m (parts 0 text ends) (rw length-parts (omega (arith, e, last-above m ms (rising-never-falls m ms (o .1)))))
 
   pub record-width : (r : ℕ) → r < length rows → startOf rows r + length (getD (tableOf text ends rows) r []) ≡ getD rows r 0
   record-width r h = rw (memory-back .2) at (lengths-at 0 (tableOf text ends rows) r (rw table-length h))

@@ -22,6 +22,11 @@ EndsInBreak f = lastOf 0 f ≡ 0x0A
 pub data EmptyFile : Bytes → Table → Type 0 where
   empty : EmptyFile [] []
 
+-- the number of fields of the first record
+abbrev pub widthOf : Table → ℕ
+widthOf [] = 0
+widthOf (cs ∷ t) = length cs
+
 -- a record differs from n in its number of fields; one differs from the first
 abbrev pub differs : ℕ → Table → Bool
 differs n [] = false

@@ -1,6 +1,7 @@
 pub mod Answer
 pub mod Count
 pub mod Dialect
+pub mod Filling
 pub mod Grammar
 pub mod House
 pub mod Memory

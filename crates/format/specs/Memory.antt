@@ -1,5 +1,5 @@
 -- A table in memory: text has the contents joined; ends has, for each field, the text length after it; rows has, for each record, the fields so far.
-use Prim.Native.Nat.{ℕ, _+_, _≤_, _<_}
+use Prim.Native.Nat.{ℕ, _+_, _-_, _≤_, _<_}
 use mathlib.Core.Path.{_≡_}
 use mathlib.Core.List.{List, [], _∷_, flatten}
 use lib.ListN.{length, getD}
@@ -38,6 +38,11 @@ pub record WellFormed (text : Bytes) (ends rows : List ℕ) : Type 0 where
 unfoldable pub parts : {A : Type 0} → ℕ → List A → List ℕ → List (List A)
 parts n l [] = []
 parts n l (m ∷ ms) = slice n m l ∷ parts m l ms
+
+-- how long the parts are: how far each number is from the one before it, and the first from n
+unfoldable pub gaps : ℕ → List ℕ → List ℕ
+gaps n [] = []
+gaps n (m ∷ ms) = (m - n) ∷ gaps m ms
 
 -- the table that memory holds
 unfoldable pub tableOf : Bytes → List ℕ → List ℕ → Table

@@ -15,7 +15,7 @@ use Rattle.format.proofs.Held.{reading-held}
 use Rattle.format.proofs.Memory.{length-lengths, table-well-formed, table-back}
 use Rattle.steps.proofs.Theorems.{one-accepted, one-refused, never-both, office-auditor}
 use Rattle.pieces.specs.Answers.{totalsOf}
-use Rattle.reader.specs.Filling.{over}
+use Rattle.format.specs.Filling.{over}
 use Rattle.reader.specs.Read.{Room, NoRoom, no-text, no-ends, no-rows, Outcome}
 
 -- the tests of room exclude each other

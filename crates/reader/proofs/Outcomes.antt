@@ -18,7 +18,7 @@ use Rattle.steps.proofs.Verdicts.{reading-verdict}
 use Rattle.format.proofs.Memory.{length-lengths}
 use Rattle.pieces.specs.Answers.{Answers, accepted, refused}
 use Rattle.reader.specs.Fill.{textIn, endsIn, rowsIn}
-use Rattle.reader.specs.Filling.{over}
+use Rattle.format.specs.Filling.{over}
 use Rattle.reader.specs.Read.{NoRoom, no-text, no-ends, no-rows, Outcome}
 use Rattle.reader.proofs.Flow.{filled}
 

@@ -14,9 +14,9 @@ use Rattle.steps.specs.Steps.{Form, put, field-end, record-end, Act, refuse, go
 use Rattle.steps.specs.Numbers.{formOf}
 use Rattle.reader.specs.declared.Head.{Head}
 use Rattle.reader.specs.Fill.{textBy, endsBy, rowsBy, textLeft, endsLeft, rowsLeft, textIn, endsIn, rowsIn}
-use Rattle.reader.specs.Filling.{over, Filling, Onward}
+use Rattle.format.specs.Filling.{over, Filling, Onward}
 use Rattle.reader.specs.Walk.{textAhead, endsAhead, rowsAhead, Counted, Before, Behind}
-use Rattle.reader.proofs.Filling.{meant, begin, move, room-at, push-equal}
+use Rattle.format.proofs.Filling.{meant, begin, move, room-at, push-equal}
 
 -- the byte at a place does a
 abbrev pub Does : Dialect → Bytes → Head → Act → Type 0

@@ -1,4 +1,3 @@
 pub mod Fill
-pub mod Filling
 pub mod Read
 pub mod Walk

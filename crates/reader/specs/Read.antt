@@ -9,7 +9,7 @@ use Rattle.format.specs.Memory.{textOf, endsOf, rowsOf}
 use Rattle.format.specs.Place.{place}
 use Rattle.format.specs.Reading.{Accepted, Refused}
 use Rattle.pieces.specs.Answers.{totalsOf}
-use Rattle.reader.specs.Filling.{over}
+use Rattle.format.specs.Filling.{over}
 
 -- room for a table: its contents in text, a place of ends for each field, one of rows for each record
 pub record Room (t : Table) (text : Bytes) (ends rows : List ℕ) : Type 0 where

@@ -10,7 +10,7 @@ use Rattle.steps.specs.Numbers.{formOf}
 use Rattle.steps.specs.declared.Stepped.{Stepped, the-variants.Refuse, the-variants.Quiet, the-variants.Put, the-variants.Hold, the-variants.Drop, the-variants.EndField, the-variants.EndRecord}
 use Rattle.reader.specs.declared.Head.{Head}
 use Rattle.reader.specs.Fill.{textLeft, endsLeft, rowsLeft}
-use Rattle.reader.specs.Filling.{Onward}
+use Rattle.format.specs.Filling.{Onward}
 
 -- the act of an answer of the code
 abbrev pub actOf : Stepped → Act

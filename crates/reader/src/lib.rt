@@ -12,7 +12,7 @@ ghost use Rattle.format.specs.House.{fileLimit};
 ghost use Rattle.steps.specs.Steps.{stepOf};
 ghost use Rattle.steps.specs.Numbers.{formOf, stepTable};
 ghost use Rattle.reader.specs.Fill.{textIn, endsIn, rowsIn};
-ghost use Rattle.reader.specs.Filling.{over};
+ghost use Rattle.format.specs.Filling.{over};
 ghost use Rattle.reader.specs.Read.{Outcome};
 ghost use Rattle.reader.specs.Walk.{actOf, Before, Behind};
 ghost use Rattle.format.specs.declared.Answer.{the-variants.Taken, the-variants.Declined};

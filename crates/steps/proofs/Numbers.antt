@@ -1,11 +1,13 @@
 -- Forms and classes by their numbers.
 use Prim.Native.Nat.{ℕ, zero, suc, min, _≤_}
 use mathlib.Core.Path.{_≡_, refl, sym}
-use mathlib.Core.Bool.{_||_}
+use mathlib.Core.Bool.{_&&_, _||_}
 use native.Mathlib.Nat.{min-eq-right}
 use native.Mathlib.Omega.{arith}
 use lib.Dec.{eqb, leb}
 use borrow.Author.Tests.{ne-eqb, le-leb}
+use Rattle.format.specs.Dialect.{Class, text, blank, delimiter, quote, CR, LF, forbidden}
+use Rattle.format.proofs.Classes.{marks}
 use Rattle.steps.specs.Steps.{inQuotes, behindCr, isBlank}
 use Rattle.steps.specs.Numbers.{formNumber, classNumber, formOf, classFrom}
 
@@ -53,3 +55,22 @@ NoneBelow n (suc k) = NoneBelow n k × (n ≡ k → ⊥)
 pub past : (n k : ℕ) → NoneBelow n k → k ≤ n
 past n zero h = omega arith
 past n (suc k) h = omega (arith, past n k (h .0), h .1)
+
+-- the numbers of a forbidden byte and of marks
+pub forbidden-number : (x : Class) → classNumber x ≡ 6 → x ≡ forbidden
+forbidden-number text e = absurd (omega (arith, e))
+forbidden-number blank e = absurd (omega (arith, e))
+forbidden-number delimiter e = absurd (omega (arith, e))
+forbidden-number quote e = absurd (omega (arith, e))
+forbidden-number CR e = absurd (omega (arith, e))
+forbidden-number LF e = absurd (omega (arith, e))
+forbidden-number forbidden e = refl
+
+pub mark-number : (x : Class) → marks x ≡ (leb 2 (classNumber x) && leb (classNumber x) 5)
+mark-number text = refl
+mark-number blank = refl
+mark-number delimiter = refl
+mark-number quote = refl
+mark-number CR = refl
+mark-number LF = refl
+mark-number forbidden = refl

@@ -5,12 +5,19 @@ use mathlib.Core.Path.{_≡_, refl, sym, _∙_}
 use mathlib.Core.Bool.{Bool, true, false, cond, true≢false}
 use mathlib.Core.List.{List, [], _∷_}
 use lib.Dec.{leb}
-use lib.ListN.{length}
+use lib.ListN.{length, getD}
 use borrow.Author.Tests.{leb-true, le-leb, eq-eqb, eqb-true}
 use Rattle.format.specs.Table.{Bytes, lastOf}
-use Rattle.format.specs.Memory.{Ordered, WellFormed}
-use Rattle.format.proofs.Memory.{well-formed}
-use Rattle.tables.specs.Formed.{Decides, runsTo}
+use Rattle.format.specs.Memory.{Ordered, WellFormed, startOf}
+use Rattle.format.proofs.Memory.{well-formed, entry-within}
+use Rattle.tables.specs.Formed.{Decides, Cuts, runsTo}
+
+module _ {A : Type 0} where
+  pub affirms : A → Decides true A
+  affirms a = record { if-true = λ h. a; if-false = λ h. absurd (true≢false h) }
+
+  pub refutes : (A → ⊥) → Decides false A
+  refutes n = record { if-true = λ h. absurd (true≢false (sym h)); if-false = λ h. n }
 
 -- over any order that a gap decides
 module _ (R : ℕ → ℕ → Type 0) (gap : ℕ) (from : (n m : ℕ) → n + gap ≤ m → R n m) (back : (n m : ℕ) → R n m → n + gap ≤ m) (end : ℕ) where
@@ -44,11 +51,20 @@ module _ {text : Bytes} {ends rows : List ℕ} where
   fits-back w = runs-back _≤_ 0 (λ n m k. omega arith) (λ n m k. omega arith) (length text) 0 ends (w .ends-never-fall) (w .last-end)
 
   pub not-rising : runsTo 1 (length ends) 0 rows ≡ false → Decides false (WellFormed text ends rows)
-  not-rising e = record { if-true = λ h. absurd (true≢false (sym h)); if-false = λ h w. true≢false (sym (rises-back w) ∙ e) }
+  not-rising e = refutes (λ w. true≢false (sym (rises-back w) ∙ e))
 
   pub decides :
       {r : Bool} → runsTo 1 (length ends) 0 rows ≡ true → r ≡ runsTo 0 (length text) 0 ends → Decides r (WellFormed text ends rows)
   decides h e = record { if-true = λ i. formed h (sym e ∙ i); if-false = λ i w. true≢false (sym (fits-back w) ∙ (sym e ∙ i)) }
+
+  pub cuts : WellFormed text ends rows → Cuts text ends
+  cuts w = record { ends-never-fall = w .ends-never-fall; last-end = w .last-end }
+
+-- the part of a field is in the text
+pub part-within :
+    {text : Bytes} {ends : List ℕ} {k start : ℕ}
+    → Cuts text ends → k < length ends → start ≡ startOf ends k → (start ≤ getD ends k 0) × (getD ends k 0 ≤ length text)
+part-within {text} {ends} {k} cut h e = rw (e, ← cut .last-end) (entry-within 0 ends k (cut .ends-never-fall) h)
 
 -- any two answers that decide one claim coincide
 pub one-decision : {A : Type 0} (r s : Bool) → Decides r A → Decides s A → r ≡ s

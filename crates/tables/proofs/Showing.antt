@@ -1,21 +1,13 @@
 -- Showing a field: the arithmetic of its place, and the law that any two outcomes coincide.
-use Prim.Native.Nat.{ℕ, zero, suc, _+_, _-_, _≤_, _<_}
+use Prim.Native.Nat.{ℕ, _+_, _-_, _≤_, _<_}
 use native.Mathlib.Omega.{arith}
-use mathlib.Core.Path.{_≡_, refl, sym, ap, subst, _∙_}
-use mathlib.Core.List.{List, [], _∷_}
-use lib.ListN.{length, getD, take, drop}
-use lib.Seq.{slice, take-nil}
+use mathlib.Core.Path.{_≡_, refl, sym, subst, _∙_}
+use mathlib.Core.List.{List, []}
+use lib.ListN.{length, getD}
 use Rattle.format.specs.Table.{Bytes}
-use Rattle.format.specs.Memory.{WellFormed, startOf, partOf}
-use Rattle.format.proofs.Memory.{table-length, row-within, field-at, record-width}
+use Rattle.format.specs.Memory.{WellFormed, startOf, parts}
+use Rattle.format.proofs.Memory.{table-length, row-within, field-at, record-width, field-part}
 use Rattle.tables.specs.Shown.{Shown, malformed, no-record, no-column, field}
-
--- the two ways to say a part in the middle
-take-from : (f t : ℕ) (l : List ℕ) → take (t - f) (drop f l) ≡ slice f t l
-take-from zero t l = let e : t - 0 ≡ t = omega arith in ap (λ (n : ℕ). take n l) e
-take-from (suc f) t [] = take-nil (t - suc f) ∙ ap (λ (m : List ℕ). drop (suc f) m) (sym (take-nil t))
-take-from (suc f) zero (x ∷ l) = let e : 0 - suc f ≡ 0 = omega arith in ap (λ (n : ℕ). take n (drop f l)) e
-take-from (suc f) (suc t) (x ∷ l) = let e : suc t - suc f ≡ t - f = omega arith in ap (λ (n : ℕ). take n (drop f l)) e ∙ take-from f t l
 
 module _ {text : Bytes} {ends rows : List ℕ} {r c : ℕ} {stand-in : Bytes} (w : WellFormed text ends rows) where
   pub lacks-record : length rows ≤ r → Shown text ends rows r c stand-in stand-in
@@ -26,14 +18,12 @@ module _ {text : Bytes} {ends rows : List ℕ} {r c : ℕ} {stand-in : Bytes} (w
       no-column w (rw (table-length text ends rows) h) (omega (arith, record-width w r h))
 
   pub shows :
-      {first start : ℕ} → first ≡ startOf rows r → start ≡ startOf ends (first + c) → r < length rows → c < getD rows r 0 - first
-      → Shown text ends rows r c stand-in (take (getD ends (first + c) 0 - start) (drop start text))
-  unfolding partOf
+      {first : ℕ} {x : Bytes} → first ≡ startOf rows r → x ≡ getD (parts 0 text ends) (first + c) [] → r < length rows → c < getD rows r 0 - first
+      → Shown text ends rows r c stand-in x
   shows p q h k =
       let inside : c < getD rows r 0 - startOf rows r = rw p at k in
-      rw (q, p, take-from (startOf ends (startOf rows r + c)) (getD ends (startOf rows r + c) 0) text)
-      (subst (Shown text ends rows r c stand-in) (field-at w r c h (omega (arith, row-within w r h)))
-      (field w (rw (table-length text ends rows) h) (omega (arith, record-width w r h, row-within w r h))))
+      subst (Shown text ends rows r c stand-in) (field-at w r c h (omega (arith, row-within w r h)) ∙ sym (rw p at q ∙ field-part text ends _))
+      (field w (rw (table-length text ends rows) h) (omega (arith, record-width w r h, row-within w r h)))
 
 -- any two outcomes coincide
 pub one-shown :

@@ -1,9 +1,12 @@
 -- The tests on a table in memory.
-use Prim.Native.Nat.{ℕ, _+_}
+use Prim.Native.Nat.{ℕ, _+_, _≤_}
 use mathlib.Core.Path.{_≡_}
 use mathlib.Core.Bool.{Bool, true, false, cond}
 use mathlib.Core.List.{List, [], _∷_}
 use lib.Dec.{eqb, leb}
+use lib.ListN.{length}
+use Rattle.format.specs.Table.{Bytes, lastOf}
+use Rattle.format.specs.Memory.{Ordered}
 
 -- an answer that decides a claim, both ways
 pub record Decides (r : Bool) (A : Type 0) : Type 0 where
@@ -14,3 +17,8 @@ pub record Decides (r : Bool) (A : Type 0) : Type 0 where
 unfoldable pub runsTo : ℕ → ℕ → ℕ → List ℕ → Bool
 runsTo gap end n [] = eqb n end
 runsTo gap end n (m ∷ l) = cond (leb (n + gap) m) (runsTo gap end m l) false
+
+-- ends that cut the text into fields: they never fall, and the last is its length
+pub record Cuts (text : Bytes) (ends : List ℕ) : Type 0 where
+  pub ends-never-fall : Ordered _≤_ 0 ends
+  pub last-end : lastOf 0 ends ≡ length text

@@ -1,10 +1,15 @@
 // Tables in memory: text, ends and rows, as the reader writes them.
+use format::FieldNumber;
+use format::Found;
 ghost use mathlib.Core.Path.{_≡_};
+ghost use mathlib.Core.List.{[]};
 ghost use Prim.Native.Nat.{_≤_, _<_};
-ghost use lib.ListN.{length};
-ghost use Rattle.format.specs.Memory.{WellFormed, startOf};
-ghost use Rattle.tables.specs.Formed.{Decides, runsTo};
+ghost use lib.ListN.{length, getD};
+ghost use Rattle.format.specs.Memory.{WellFormed, parts, startOf};
+ghost use Rattle.format.specs.Answer.{searchNumbers};
+ghost use Rattle.tables.specs.Formed.{Decides, Cuts, runsTo};
 ghost use Rattle.tables.specs.Shown.{Shown};
+ghost use Rattle.tables.specs.Search.{Searched, Repeats, Named, Least};
 
 // Whether three slices are a well formed table.
 pub fn is_well_formed(text: &[u8], ends: &[u32], rows: &[u32]) -> bool
@@ -40,9 +45,96 @@ pub fn show<'a>(
         return stand_in;
     }
     let k = first + column;
+    part_at(text, ends, k)
+}
+
+// The column, from 0, whose whole name in the header is the name, byte for byte; or why there is none to
+// give. The header is the first record. Two equal names in it are refused whatever the name.
+pub fn find_column(text: &[u8], ends: &[u32], rows: &[u32], name: &[u8]) -> Found
+    ensures { λ r. ⌜ Searched (now (text .entry)) (now (ends .entry)) (now (rows .entry)) (now (name .entry)) (searchNumbers r) ⌝ }
+{
+    let formed = is_well_formed(text, ends, rows);
+    if !formed {
+        return Found::Unfit;
+    }
+    if rows.len() == 0 {
+        return Found::Missing;
+    }
+    let width = rows[0] as usize;
+    let later = first_repeated(text, ends, width);
+    if later < width {
+        return Found::Twice(FieldNumber(later as u32));
+    }
+    let k = first_named(text, ends, width, name);
+    if k < width {
+        return Found::At(FieldNumber(k as u32));
+    }
+    Found::Missing
+}
+
+// The lowest of the first fields, as many as the width, that equals an earlier one; or the width.
+fn first_repeated(text: &[u8], ends: &[u32], width: usize) -> usize
+    requires { ⌜ Cuts (now text) (now ends) ⌝ }
+    requires { ⌜ width ≤ length (now ends) ⌝ }
+    ensures { λ r. ⌜ Least (Repeats (parts 0 (now (text .entry)) (now (ends .entry)))) width r ⌝ }
+{
+    let mut later = 0;
+    'later: while later < width {
+        let name = part_at(text, ends, later);
+        let mut earlier = 0;
+        while earlier < later {
+            if same(part_at(text, ends, earlier), name) {
+                break 'later;
+            }
+            earlier += 1;
+        }
+        later += 1;
+    }
+    later
+}
+
+// The lowest of the first fields, as many as the width, that is the name; or the width.
+fn first_named(text: &[u8], ends: &[u32], width: usize, name: &[u8]) -> usize
+    requires { ⌜ Cuts (now text) (now ends) ⌝ }
+    requires { ⌜ width ≤ length (now ends) ⌝ }
+    ensures { λ r. ⌜ Least (Named (parts 0 (now (text .entry)) (now (ends .entry))) (now (name .entry))) width r ⌝ }
+{
+    let mut k = 0;
+    while k < width {
+        if same(part_at(text, ends, k), name) {
+            return k;
+        }
+        k += 1;
+    }
+    k
+}
+
+// The part of text that field k is.
+fn part_at<'a>(text: &'a [u8], ends: &[u32], k: usize) -> &'a [u8]
+    requires { ⌜ Cuts (now text) (now ends) ⌝ }
+    requires { ⌜ k < length (now ends) ⌝ }
+    ensures { λ r. ⌜ now r ≡ getD (parts 0 (now (text .entry)) (now (ends .entry))) k [] ⌝ }
+{
     let start = start_of(ends, k);
     let end = ends[k] as usize;
     &text[start..end]
+}
+
+// Whether two slices have the same bytes.
+fn same(a: &[u8], b: &[u8]) -> bool
+    ensures { λ r. ⌜ Decides r (now (a .entry) ≡ now (b .entry)) ⌝ }
+{
+    if a.len() != b.len() {
+        return false;
+    }
+    let mut i = 0;
+    while i < a.len() {
+        if a[i] != b[i] {
+            return false;
+        }
+        i += 1;
+    }
+    true
 }
 
 // Where entry k begins: at the entry before it, or at 0.

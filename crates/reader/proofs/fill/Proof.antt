@@ -6,7 +6,7 @@ use native.Mathlib.Omega.{arith}
 use lib.ListN.{length}
 use borrow.Author.Needs.{needs}
 use Rattle.format.specs.Dialect.{dialect}
-use Rattle.reader.proofs.Filling.{room-at, same-size, push}
+use Rattle.format.proofs.Filling.{room-at, same-size, push}
 use Rattle.reader.proofs.Walk.{On, sets-out, before, walks, last-text, last-ends, last-rows}
 use Rattle.reader.proofs.fill.Statement.{statement}
 use Rattle.reader.proofs.fill.Tie as tie

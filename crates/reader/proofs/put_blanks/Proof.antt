@@ -7,8 +7,8 @@ use native.Mathlib.Omega.{arith}
 use lib.ListN.{replicate, length-replicate}
 use lib.Seq.{sets}
 use borrow.Author.Needs.{needs}
-use Rattle.reader.specs.Filling.{Filling}
-use Rattle.reader.proofs.Filling.{meant, move, room-at, same-size, push}
+use Rattle.format.specs.Filling.{Filling}
+use Rattle.format.proofs.Filling.{meant, move, room-at, same-size, push}
 use Rattle.reader.proofs.put_blanks.Statement.{statement}
 use Rattle.reader.proofs.put_blanks.Tie as tie
 

@@ -5,8 +5,9 @@ use lib.ListN.{length}
 use denote.Ref.{now}
 use borrow.Author.Tests.{not-true, not-false}
 use Rattle.format.specs.Memory.{WellFormed}
-use Rattle.format.proofs.Memory.{row-within, end-within}
+use Rattle.format.proofs.Memory.{row-within}
 use Rattle.tables.specs.Shown.{malformed}
+use Rattle.tables.proofs.Formed.{cuts}
 use Rattle.tables.proofs.Showing.{lacks-record, lacks-column, shows}
 use borrow.Author.Needs.{needs}
 use Rattle.tables.proofs.show.Statement.{statement}
@@ -60,46 +61,14 @@ returns-3 c =
 add-k : tie.Need-add-k
 add-k c = omega (arith, c .if3 .left, c .before .shared-slice-known5 .given (begin (c .before .before .before .before) .args .record))
 
-start-of-requires-2 : tie.Need-start-of-requires-2
-start-of-requires-2 c κs = field-in c
-
-mul-end : tie.Need-mul-end
-mul-end c =
-    let e = c .before in
-    omega (arith, e .if3 .left, e .before .shared-slice-known5 .given (begin (e .before .before .before .before) .args .record))
-
-shared-slice-read-end : tie.Need-shared-slice-read-end
-shared-slice-read-end c = field-in (c .before .before)
-
-cast-end : tie.Need-cast-end
-cast-end c =
-    let o = c .before .before .before .before in
-    omega (arith, c .shared-slice-known6 .given (o .start-of .result + begin (o .before .before) .args .column))
-
-sub-result : tie.Need-sub-result
-sub-result c =
-    let e = c .before .before in
-    rw (c .before .start-of2 .ensures) (end-within (formed (e .before .before .before .before)) _ (field-in e) .0)
-
-part-result-start : tie.Need-part-result-start
-part-result-start c =
-    let e = c .before .before in
-    let x = end-within (formed (e .before .before .before .before)) _ (field-in e) in
-    search needs
-
-part-result-end : tie.Need-part-result-end
-part-result-end c =
-    let e = c .before .before in
-    let x = end-within (formed (e .before .before .before .before)) _ (field-in e) .1 in
-    search needs
+part-at-requires : tie.Need-part-at-requires
+part-at-requires c κs = (cuts (formed (c .before .before .before .before)), field-in c)
 
 returns-4 : tie.Need-returns-4
 returns-4 c =
-    let s = c .before .before in
-    let e = s .before in
-    let o = e .before .before in
+    let o = c .before .before .before in
     let t = o .before in
-    shows (formed (t .before)) (o .start-of .ensures) (s .start-of2 .ensures) (t .if2 .left) (e .if3 .left)
+    shows (formed (t .before)) (o .start-of .ensures) (c .part-at .ensures) (t .if2 .left) (c .before .if3 .left)
 
 pub show-spec : {M : Type 1} → statement M
 show-spec =
@@ -115,11 +84,5 @@ show-spec =
     sub-if3
     returns-3
     add-k
-    start-of-requires-2
-    mul-end
-    shared-slice-read-end
-    cast-end
-    sub-result
-    part-result-start
-    part-result-end
+    part-at-requires
     returns-4)

@@ -7,7 +7,7 @@ use native.Mathlib.Numerals.{add-one}
 use native.Mathlib.Omega.{arith}
 use lib.ListN.{length, set, replicate, length-set, length-append, length-replicate}
 use lib.Seq.{sets, sets-eq, length-sets}
-use Rattle.reader.specs.Filling.{over, Filling, Onward}
+use Rattle.format.specs.Filling.{over, Filling, Onward}
 
 module _ {A : Type 0} where
   -- what a buffer with room is to become, from a place on and from the front
@@ -31,7 +31,7 @@ module _ {A : Type 0} where
   same-size {buf} {buf′} {rest} {rest′} {at = at} {at′ = at′} f g =
       sym (length-sets buf at rest) ∙ ap length (f .fills ∙ sym (g .fills)) ∙ length-sets buf′ at′ rest′
 
-  -- nothing is written; an element is; n equal elements are
+  -- nothing is written; an element is; a list is; n equal elements are
   pub stay : {buf rest : List A} {at : ℕ} → Onward buf at rest buf at rest
   stay full f = f
 
@@ -42,10 +42,17 @@ module _ {A : Type 0} where
   sets-append [] rest buf at = rw add-zero
   sets-append (x ∷ xs) rest buf at = rw (add-suc, ← suc-add) (sets-append xs rest (set buf at x) (suc at))
 
+  pub pushes : (xs : List A) {buf rest : List A} {at : ℕ} → Onward buf at (xs ++ rest) (sets buf at xs) (at + length xs) rest
+  pushes xs {buf} {rest} {at} full f =
+      record {
+        room = simp length-sets (omega (arith, f .room, length-append xs rest));
+        fills = sym (sets-append xs rest buf at) ∙ f .fills;
+      }
+
   pub push-equal : (n : ℕ) (x : A) {buf rest : List A} {at : ℕ} → Onward buf at (replicate n x ++ rest) (sets buf at (replicate n x)) (at + n) rest
   push-equal n x {buf} {rest} {at} full f =
-      let e = length-replicate n x in
-      record {
-        room = simp length-sets (omega (arith, f .room, length-append (replicate n x) rest));
-        fills = subst (λ m. sets (sets buf at (replicate n x)) (at + m) rest ≡ full) e (sym (sets-append (replicate n x) rest buf at) ∙ f .fills);
-      }
+      subst (λ (m : ℕ). Filling (sets buf at (replicate n x)) (at + m) rest full) (length-replicate n x) (pushes (replicate n x) full f)
+
+  -- room for a list with which the rest begins
+  pub room-for : (xs rest : List A) {buf full : List A} {at : ℕ} → Filling buf at (xs ++ rest) full → at + length xs ≤ length buf
+  room-for xs rest f = omega (arith, f .room, length-append xs rest)

@@ -1,0 +1,57 @@
+-- The numbers of an answer say which answer it is: each has its way back.
+use Prim.Native.Nat.{ℕ}
+use mathlib.Core.Path.{_≡_, refl, sym, ap, _∙_}
+use mathlib.Core.Bool.{cond}
+use mathlib.Core.List.{List}
+use lib.Dec.{eqb}
+use lib.ListN.{getD}
+use Rattle.format.specs.declared.FieldNumber.{FieldNumber}
+use Rattle.format.specs.declared.Found.{Found, the-variants.At, the-variants.Unfit, the-variants.Twice, the-variants.Missing}
+use Rattle.format.specs.declared.Written.{Written, the-variants.Whole, the-variants.UnknownMode, the-variants.Malformed, the-variants.Forbidden, the-variants.LongContent, the-variants.Uneven, the-variants.LongFile, the-variants.NoRoom}
+use Rattle.format.specs.Answer.{searchNumbers, writerNumbers}
+
+-- what has a way back is one
+one-by : {A : Type 0} (f : A → List ℕ) (g : List ℕ → A) → ((x : A) → g (f x) ≡ x) → (x y : A) → f x ≡ f y → x ≡ y
+one-by f g back x y e = sym (back x) ∙ ap g e ∙ back y
+
+found : List ℕ → Found
+found l =
+    let n = getD l 0 0 in
+    let k : FieldNumber = record { 0 = getD l 1 0 } in
+    cond (eqb n 0) (At k) (cond (eqb n 14) Unfit (cond (eqb n 16) (Twice k) Missing))
+
+pub one-search-numbers : (x y : Found) → searchNumbers x ≡ searchNumbers y → x ≡ y
+unfolding found
+one-search-numbers = one-by searchNumbers found back
+  where
+    back : (x : Found) → found (searchNumbers x) ≡ x
+    back (At k) = refl
+    back Unfit = refl
+    back (Twice k) = refl
+    back Missing = refl
+
+written : List ℕ → Written
+written l =
+    let n = getD l 0 0 in
+    let k = getD l 3 0 in
+    cond (eqb n 0) (Whole (getD l 4 0))
+    (cond (eqb n 1) UnknownMode
+    (cond (eqb n 14) Malformed
+    (cond (eqb n 3) (Forbidden (record { 0 = k }))
+    (cond (eqb n 9) (LongContent (record { 0 = k }))
+    (cond (eqb n 10) (Uneven k)
+    (cond (eqb n 2) LongFile NoRoom))))))
+
+pub one-write-numbers : (x y : Written) → writerNumbers x ≡ writerNumbers y → x ≡ y
+unfolding written
+one-write-numbers = one-by writerNumbers written back
+  where
+    back : (x : Written) → written (writerNumbers x) ≡ x
+    back (Whole n) = refl
+    back UnknownMode = refl
+    back Malformed = refl
+    back (Forbidden b) = refl
+    back (LongContent k) = refl
+    back (Uneven r) = refl
+    back LongFile = refl
+    back NoRoom = refl

@@ -1,0 +1,7 @@
+pub mod Calls
+pub mod Content
+pub mod Demands
+pub mod Fields
+pub mod Outcomes
+pub mod Seeking
+pub mod Walking

@@ -1,0 +1,116 @@
+-- From what the searches and the two passes find to the outcome of a write.
+use Prim.Native.Nat.{ℕ, zero, suc, _≤_, _<_}
+use native.Mathlib.Omega.{arith}
+use mathlib.Core.Path.{_≡_, refl, sym, ap, subst, _∙_}
+use mathlib.Core.Bool.{Bool, true, false}
+use mathlib.Core.Logic.{inl, inr, _↔_}
+use mathlib.Core.List.{List, flatten}
+use lib.Dec.{eqb, leb}
+use lib.ListN.{length, getD}
+use borrow.Author.Tests.{leb-true, leb-false}
+use Rattle.format.specs.Table.{Bytes, Content, Table, None, First}
+use Rattle.format.specs.Dialect.{strict}
+use Rattle.format.specs.Filling.{over}
+use Rattle.format.specs.House.{contentLimit, fileLimit, widthOf}
+use Rattle.format.specs.Memory.{WellFormed, gaps, tableOf}
+use Rattle.format.specs.Written.{tableBy, Holds}
+use Rattle.format.proofs.First.{first-inside}
+use Rattle.format.proofs.Holding.{holds}
+use Rattle.format.proofs.Memory.{table-length, memory-back, memory-fields, fields-length, field-lengths, record-lengths, width-at}
+use Rattle.writer.specs.Form.{formIn}
+use Rattle.writer.specs.Seek.{Sought, Outside}
+use Rattle.writer.specs.Write.{fileIn, Barred, TooLong, Differs, refused, accepted, FileOutcome, TableOutcome, Outcome}
+use Rattle.writer.proofs.Fields.{plain-form, full-form}
+use Rattle.writer.proofs.Seeking.{sought-same, sought-lengths}
+
+module _ {A : Type 0} {P : A → Type 0} {l : List A} {k : ℕ} where
+  is-first : Sought P l k → k < length l → First P l k
+  is-first (inl x) h = x
+  is-first (inr (n, e)) h = absurd (omega arith)
+
+  is-none : Sought P l k → length l ≤ k → None P l
+  is-none (inl x) h = absurd (omega (arith, first-inside x))
+  is-none (inr (n, e)) h = n
+
+too-long : (c : Content) → Outside 0 contentLimit (length c) ↔ TooLong c
+too-long c = (there, inr)
+  where
+    there : Outside 0 contentLimit (length c) → TooLong c
+    there (inl h) = absurd (omega arith)
+    there (inr h) = h
+
+other-width : (w : ℕ) (cs : List Content) → Outside w w (length cs) ↔ (length cs ≡ w → ⊥)
+other-width w cs = (there, back)
+  where
+    there : Outside w w (length cs) → length cs ≡ w → ⊥
+    there (inl h) e = omega arith
+    there (inr h) e = omega arith
+
+    back : (length cs ≡ w → ⊥) → Outside w w (length cs)
+    back n = go (leb (length cs) w) refl
+      where
+        go : (x : Bool) → leb (length cs) w ≡ x → Outside w w (length cs)
+        go true e = let h = leb-true (length cs) w e in inl (omega (arith, h))
+        go false e = inr (leb-false (length cs) w e)
+
+module _ {text : Bytes} {ends rows : List ℕ} (w : WellFormed text ends rows) where
+  pub by-3 : {mode k : ℕ} {out : Bytes} → mode ≤ 1 → Sought Barred text k → k < length text → Outcome text ends rows mode out (refused 3 k) out
+  by-3 m s h = Outcome.well-formed m w (TableOutcome.refusal-3 (is-first s h))
+
+  contents : {k : ℕ} → Sought (Outside 0 contentLimit) (gaps 0 ends) k → Sought TooLong (flatten (tableOf text ends rows)) k
+  contents {k} s =
+      sought-same TooLong too-long (flatten (tableOf text ends rows)) k
+      (sought-lengths (Outside 0 contentLimit) (flatten (tableOf text ends rows)) k
+      (subst (λ (l : List ℕ). Sought (Outside 0 contentLimit) l k) (sym (field-lengths w)) s))
+
+  records : {k : ℕ} → Sought (Outside (getD rows 0 0) (getD rows 0 0)) (gaps 0 rows) k → Sought (Differs (tableOf text ends rows)) (tableOf text ends rows) k
+  records {k} s =
+      sought-same (Differs (tableOf text ends rows)) (other-width (widthOf (tableOf text ends rows))) (tableOf text ends rows) k
+      (sought-lengths (Outside (widthOf (tableOf text ends rows)) (widthOf (tableOf text ends rows))) (tableOf text ends rows) k
+      (rw (width-at w, record-lengths w) s))
+
+  module _ {b : ℕ} (bytes : Sought Barred text b) (b-none : length text ≤ b) where
+    pub by-9 :
+        {mode k : ℕ} {out : Bytes} → mode ≤ 1 → Sought (Outside 0 contentLimit) (gaps 0 ends) k → k < length ends
+        → Outcome text ends rows mode out (refused 9 k) out
+    by-9 m s h = Outcome.well-formed m w (TableOutcome.refusal-9 (is-none bytes b-none) (is-first (contents s) (rw (fields-length w) h)))
+
+    module _ {f : ℕ} (fields : Sought (Outside 0 contentLimit) (gaps 0 ends) f) (f-none : length ends ≤ f) where
+      no-long : None TooLong (flatten (tableOf text ends rows))
+      no-long = is-none (contents fields) (rw (fields-length w) f-none)
+
+      pub by-10 :
+          {mode k : ℕ} {out : Bytes} → mode ≤ 1 → Sought (Outside (getD rows 0 0) (getD rows 0 0)) (gaps 0 rows) k → k < length rows
+          → Outcome text ends rows mode out (refused 10 k) out
+      by-10 m s h = Outcome.well-formed m w (TableOutcome.refusal-10 (is-none bytes b-none) no-long (is-first (records s) (rw table-length h)))
+
+      pub held :
+          {k : ℕ} → Sought (Outside (getD rows 0 0) (getD rows 0 0)) (gaps 0 rows) k → length rows ≤ k → Holds strict (tableOf text ends rows)
+      held s h =
+          holds strict (tableOf text ends rows) (memory-fields w) (rw (memory-back w .0) (is-none bytes b-none)) no-long
+          (is-none (records s) (rw table-length h))
+
+-- the file of a mode is the table by the form of its fields
+file-by : (mode : ℕ) → mode ≤ 1 → (t : Table) → tableBy (formIn (eqb mode 1)) strict t ≡ fileIn mode t
+file-by zero h t = rw plain-form
+file-by (suc zero) h t = rw full-form
+file-by (suc (suc n)) h t = absurd (omega arith)
+
+-- a table that strict can hold, with the length of its file
+module _ {text : Bytes} {ends rows : List ℕ} {mode n : ℕ} (m : mode ≤ 1) (w : WellFormed text ends rows)
+    (h : Holds strict (tableOf text ends rows)) (e : n ≡ length (tableBy (formIn (eqb mode 1)) strict (tableOf text ends rows))) where
+  size-is : n ≡ length (fileIn mode (tableOf text ends rows))
+  size-is = e ∙ ap length (file-by mode m (tableOf text ends rows))
+
+  pub by-2 : {out : Bytes} → fileLimit < n → Outcome text ends rows mode out (refused 2 0) out
+  by-2 l = Outcome.well-formed m w (TableOutcome.held h (FileOutcome.refusal-2 (rw (← size-is) l)))
+
+  pub by-15 : {out : Bytes} → n ≤ fileLimit → length out < n → Outcome text ends rows mode out (refused 15 0) out
+  by-15 l k = Outcome.well-formed m w (TableOutcome.held h (FileOutcome.refusal-15 (rw (← size-is) l) (rw (← size-is) k)))
+
+  pub by-whole :
+      {out out′ : Bytes} → n ≤ fileLimit → n ≤ length out → out′ ≡ over (tableBy (formIn (eqb mode 1)) strict (tableOf text ends rows)) out
+      → Outcome text ends rows mode out (accepted n) out′
+  by-whole l k q =
+      rw (q, file-by mode m (tableOf text ends rows), size-is)
+      (Outcome.well-formed m w (TableOutcome.held h (FileOutcome.whole (rw (← size-is) l) (rw (← size-is) k))))

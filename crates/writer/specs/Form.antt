@@ -1,0 +1,12 @@
+-- The form of a field in either mode, as the code makes it: its content with each quote doubled, between quotes or not.
+use mathlib.Core.Bool.{Bool, cond, _||_}
+use Rattle.format.specs.Table.{Bytes, Content}
+use Rattle.format.specs.Dialect.{strict}
+use Rattle.format.specs.Written.{needsQuotes, quotedForm}
+
+-- full quotes every field, plain one that needs it
+unfoldable pub quotes : Bool → Content → Bool
+quotes full c = full || needsQuotes strict c
+
+unfoldable pub formIn : Bool → Content → Bytes
+formIn full c = cond (quotes full c) (quotedForm c) c
