@@ -185,6 +185,11 @@ module _ (text : Bytes) (ends : List ℕ) (k : ℕ) where
   unfolding partOf
   part-from = sym (take-from (startOf ends k) (getD ends k 0) text)
 
+pub part-length :
+    (text : Bytes) (ends : List ℕ) (k : ℕ) → getD ends k 0 ≤ length text → length (partOf text ends k) ≡ getD ends k 0 - startOf ends k
+unfolding partOf
+part-length text ends k h = length-slice (startOf ends k) (getD ends k 0) text h
+
 pub table-length : (text : Bytes) (ends rows : List ℕ) → length (tableOf text ends rows) ≡ length rows
 unfolding tableOf
 table-length text ends rows = length-parts 0 (parts 0 text ends) rows

@@ -8,7 +8,8 @@ use lib.ListN.{getD}
 use Rattle.format.specs.declared.FieldNumber.{FieldNumber}
 use Rattle.format.specs.declared.Found.{Found, the-variants.At, the-variants.Unfit, the-variants.Twice, the-variants.Missing}
 use Rattle.format.specs.declared.Written.{Written, the-variants.Whole, the-variants.UnknownMode, the-variants.Malformed, the-variants.Forbidden, the-variants.LongContent, the-variants.Uneven, the-variants.LongFile, the-variants.NoRoom}
-use Rattle.format.specs.Answer.{searchNumbers, writerNumbers}
+use Rattle.format.specs.declared.Part.{Part, the-variants.Lies, the-variants.Absent}
+use Rattle.format.specs.Answer.{searchNumbers, writerNumbers, partNumbers}
 
 -- what has a way back is one
 one-by : {A : Type 0} (f : A → List ℕ) (g : List ℕ → A) → ((x : A) → g (f x) ≡ x) → (x y : A) → f x ≡ f y → x ≡ y
@@ -55,3 +56,14 @@ one-write-numbers = one-by writerNumbers written back
     back (Uneven r) = refl
     back LongFile = refl
     back NoRoom = refl
+
+part : List ℕ → Part
+part l = cond (eqb (getD l 0 0) 0) Absent (Lies (getD l 1 0) (getD l 2 0))
+
+pub one-part-numbers : (x y : Part) → partNumbers x ≡ partNumbers y → x ≡ y
+unfolding part
+one-part-numbers = one-by partNumbers part back
+  where
+    back : (x : Part) → part (partNumbers x) ≡ x
+    back (Lies start n) = refl
+    back Absent = refl

@@ -4,6 +4,7 @@ use mathlib.Core.List.{List, [], _∷_}
 use Rattle.format.specs.declared.Answer.{Answer, the-variants.Taken, the-variants.Declined}
 use Rattle.format.specs.declared.Written.{Written, the-variants.Whole, the-variants.UnknownMode, the-variants.Malformed, the-variants.Forbidden, the-variants.LongContent, the-variants.Uneven, the-variants.LongFile, the-variants.NoRoom}
 use Rattle.format.specs.declared.Found.{Found, the-variants.At, the-variants.Unfit, the-variants.Twice, the-variants.Missing}
+use Rattle.format.specs.declared.Part.{Part, the-variants.Lies, the-variants.Absent}
 
 -- refusal, line, column, byte, records, fields, text length, report
 abbrev pub readerNumbers : Answer → List ℕ
@@ -27,3 +28,8 @@ searchNumbers (At k) = 0 ∷ k .0 ∷ []
 searchNumbers Unfit = 14 ∷ 0 ∷ []
 searchNumbers (Twice k) = 16 ∷ k .0 ∷ []
 searchNumbers Missing = 17 ∷ 0 ∷ []
+
+-- found (1, or 0 for the stand-in), start, length
+abbrev pub partNumbers : Part → List ℕ
+partNumbers (Lies start n) = 1 ∷ start ∷ n ∷ []
+partNumbers Absent = 0 ∷ 0 ∷ 0 ∷ []

@@ -4,14 +4,19 @@
 
 // Four kinds of number that cannot be mixed. Lines and columns count from 1, bytes and fields
 // from 0. A table's column is a field number and never a Column.
+#[repr(C)]
 pub struct Line(pub u32);
 
+#[repr(C)]
 pub struct Column(pub u32);
 
+#[repr(C)]
 pub struct ByteOffset(pub u32);
 
+#[repr(C)]
 pub struct FieldNumber(pub u32);
 
+#[repr(C)]
 pub struct Place {
     pub line: Line,
     pub column: Column,
@@ -50,4 +55,10 @@ pub enum Found {
     Unfit,
     Twice(FieldNumber),
     Missing,
+}
+
+// Where a field lies in text: its start and its length; or there is no such field.
+pub enum Part {
+    Lies(u32, u32),
+    Absent,
 }

@@ -82,7 +82,7 @@ one-in-header (nowhere b e) (twice l r a) = absurd (b _ l r)
 one-in-header (nowhere b e) (at a l d) = absurd (e _ l d)
 one-in-header (nowhere a d) (nowhere b e) = refl
 
-one-found :
+pub one-found :
     {text : Bytes} {ends rows : List ℕ} {name : Bytes} {m n : List ℕ}
     → Searched text ends rows name m → Searched text ends rows name n → m ≡ n
 one-found (malformed h) (malformed i) = refl

@@ -1,47 +1,105 @@
--- Showing a field: the arithmetic of its place, and the law that any two outcomes coincide.
+-- Showing a field: the arithmetic of its place, and the laws that any two outcomes coincide.
 use Prim.Native.Nat.{ℕ, _+_, _-_, _≤_, _<_}
 use native.Mathlib.Omega.{arith}
-use mathlib.Core.Path.{_≡_, refl, sym, subst, _∙_}
-use mathlib.Core.List.{List, []}
-use lib.ListN.{length, getD}
+use mathlib.Core.Path.{_≡_, refl, sym, ap, subst, _∙_}
+use mathlib.Core.List.{List, [], _∷_}
+use lib.ListN.{length, getD, take, drop}
+use Rattle.format.specs.declared.Part.{Part}
 use Rattle.format.specs.Table.{Bytes}
-use Rattle.format.specs.Memory.{WellFormed, startOf, parts}
-use Rattle.format.proofs.Memory.{table-length, row-within, field-at, record-width, field-part}
-use Rattle.tables.specs.Shown.{Shown, malformed, no-record, no-column, field}
+use Rattle.format.specs.Memory.{WellFormed, tableOf, startOf, parts, partOf}
+use Rattle.format.specs.Answer.{partNumbers}
+use Rattle.format.proofs.Memory.{table-length, row-within, end-within, field-at, record-width, field-part, part-from, part-length}
+use Rattle.format.proofs.Numbers.{one-part-numbers}
+use Rattle.tables.specs.Shown.{Has, Lacks, malformed, no-record, no-column, Shown, Numbered, numbered, Located, lies}
 
-module _ {text : Bytes} {ends rows : List ℕ} {r c : ℕ} {stand-in : Bytes} (w : WellFormed text ends rows) where
-  pub lacks-record : length rows ≤ r → Shown text ends rows r c stand-in stand-in
-  lacks-record h = no-record w (rw (table-length text ends rows) h)
+module _ {text : Bytes} {ends rows : List ℕ} {r c : ℕ} where
+  -- a place is there or is not
+  never-both : Has text ends rows r c → Lacks text ends rows r c → ⊥
+  never-both h (malformed n) = n (h .formed)
+  never-both h (no-record w l) = omega (arith, h .record-in)
+  never-both h (no-column w l m) = omega (arith, h .column-in)
 
-  pub lacks-column : r < length rows → getD rows r 0 - startOf rows r ≤ c → Shown text ends rows r c stand-in stand-in
-  lacks-column h k =
-      no-column w (rw (table-length text ends rows) h) (omega (arith, record-width w r h))
+  module _ (w : WellFormed text ends rows) where
+    pub lacks-record : length rows ≤ r → Lacks text ends rows r c
+    lacks-record h = no-record w (rw (table-length text ends rows) h)
+
+    pub lacks-column : r < length rows → getD rows r 0 - startOf rows r ≤ c → Lacks text ends rows r c
+    lacks-column h k = no-column w (rw (table-length text ends rows) h) (omega (arith, record-width w r h))
+
+    pub is-number : {first : ℕ} → first ≡ startOf rows r → r < length rows → c < getD rows r 0 - first → Numbered text ends rows r c (first + c)
+    is-number e h k =
+        let k′ : c < getD rows r 0 - startOf rows r = rw e at k in
+        rw e
+        (numbered
+        (record {
+          formed = w;
+          record-in = rw (table-length text ends rows) h;
+          column-in = omega (arith, record-width w r h, row-within w r h);
+        }))
+
+  -- the field of a place that is there: its number is within the fields, and its content is that field's
+  module _ (h : Has text ends rows r c) where
+    row-in : r < length rows
+    row-in = rw (table-length text ends rows) at (h .record-in)
+
+    column-in-row : startOf rows r + c < getD rows r 0
+    column-in-row = omega (arith, record-width (h .formed) r row-in, h .column-in)
+
+    pub number-in : startOf rows r + c < length ends
+    number-in = omega (arith, column-in-row, row-within (h .formed) r row-in .1)
+
+    content-is : getD (getD (tableOf text ends rows) r []) c [] ≡ partOf text ends (startOf rows r + c)
+    content-is = field-at (h .formed) r c row-in column-in-row
+
+    size-is : length (partOf text ends (startOf rows r + c)) ≡ getD ends (startOf rows r + c) 0 - startOf ends (startOf rows r + c)
+    size-is = part-length text ends (startOf rows r + c) (end-within (h .formed) (startOf rows r + c) number-in .1)
+
+    -- the part of text at the place where it lies is its content
+    pub part-is :
+        take (length (getD (getD (tableOf text ends rows) r []) c [])) (drop (startOf ends (startOf rows r + c)) text)
+        ≡ getD (getD (tableOf text ends rows) r []) c []
+    part-is = rw (content-is, size-is) (sym (part-from text ends (startOf rows r + c)))
+
+  -- from the number of a field to what is shown, and to where it lies
+  pub is-there : {k : ℕ} → Numbered text ends rows r c k → k < length ends → Has text ends rows r c × (k ≡ startOf rows r + c)
+  is-there (numbered h) l = (h, refl)
+  is-there (Numbered.absent n) l = absurd (omega arith)
+
+  pub is-absent : {k : ℕ} → Numbered text ends rows r c k → length ends ≤ k → Lacks text ends rows r c
+  is-absent (numbered h) l = absurd (omega (arith, number-in h))
+  is-absent (Numbered.absent n) l = n
 
   pub shows :
-      {first : ℕ} {x : Bytes} → first ≡ startOf rows r → x ≡ getD (parts 0 text ends) (first + c) [] → r < length rows → c < getD rows r 0 - first
+      {k : ℕ} {x stand-in : Bytes} → Numbered text ends rows r c k → k < length ends → x ≡ getD (parts 0 text ends) k []
       → Shown text ends rows r c stand-in x
-  shows p q h k =
-      let inside : c < getD rows r 0 - startOf rows r = rw p at k in
-      subst (Shown text ends rows r c stand-in) (field-at w r c h (omega (arith, row-within w r h)) ∙ sym (rw p at q ∙ field-part text ends _))
-      (field w (rw (table-length text ends rows) h) (omega (arith, record-width w r h, row-within w r h)))
+  shows n l e =
+      let (h, q) = is-there n l in
+      subst (Shown text ends rows r c _) (content-is h ∙ sym (rw q at e ∙ field-part text ends _)) (Shown.field h)
 
--- any two outcomes coincide
-pub one-shown :
-    {text : Bytes} {ends rows : List ℕ} {r c : ℕ} {stand-in x y : Bytes}
-    → Shown text ends rows r c stand-in x → Shown text ends rows r c stand-in y → x ≡ y
-one-shown (malformed h) (malformed i) = refl
-one-shown (malformed h) (no-record w i) = refl
-one-shown (malformed h) (no-column w i j) = refl
-one-shown (malformed h) (field w i j) = absurd (h w)
-one-shown (no-record v h) (malformed i) = refl
-one-shown (no-record v h) (no-record w i) = refl
-one-shown (no-record v h) (no-column w i j) = refl
-one-shown (no-record v h) (field w i j) = absurd (omega arith)
-one-shown (no-column v g h) (malformed i) = refl
-one-shown (no-column v g h) (no-record w i) = refl
-one-shown (no-column v g h) (no-column w i j) = refl
-one-shown (no-column v g h) (field w i j) = absurd (omega arith)
-one-shown (field v g h) (malformed i) = absurd (i v)
-one-shown (field v g h) (no-record w i) = absurd (omega arith)
-one-shown (field v g h) (no-column w i j) = absurd (omega arith)
-one-shown (field v g h) (field w i j) = refl
+  pub starts-below : {k start : ℕ} → Numbered text ends rows r c k → k < length ends → start ≡ startOf ends k → start ≤ getD ends k 0
+  starts-below {k} n l e = rw e (end-within (is-there n l .0 .formed) k l .0)
+
+  pub lies-at :
+      {k start : ℕ} → Numbered text ends rows r c k → k < length ends → start ≡ startOf ends k
+      → Located text ends rows r c (1 ∷ start ∷ (getD ends k 0 - start) ∷ [])
+  lies-at {k} {start} n l e =
+      let (h, q) = is-there n l in
+      let z : length (getD (getD (tableOf text ends rows) r []) c []) ≡ getD ends (startOf rows r + c) 0 - startOf ends (startOf rows r + c) =
+      ap length (content-is h) ∙ size-is h in
+      rw (e, q, ← z) (lies h)
+
+  -- any two outcomes coincide
+  pub one-shown : {stand-in x y : Bytes} → Shown text ends rows r c stand-in x → Shown text ends rows r c stand-in y → x ≡ y
+  one-shown (Shown.field h) (Shown.field i) = refl
+  one-shown (Shown.field h) (Shown.absent l) = absurd (never-both h l)
+  one-shown (Shown.absent l) (Shown.field h) = absurd (never-both h l)
+  one-shown (Shown.absent l) (Shown.absent m) = refl
+
+  pub one-place : {m n : List ℕ} → Located text ends rows r c m → Located text ends rows r c n → m ≡ n
+  one-place (lies h) (lies i) = refl
+  one-place (lies h) (Located.absent l) = absurd (never-both h l)
+  one-place (Located.absent l) (lies h) = absurd (never-both h l)
+  one-place (Located.absent l) (Located.absent m) = refl
+
+  pub one-located : (x y : Part) → Located text ends rows r c (partNumbers x) → Located text ends rows r c (partNumbers y) → x ≡ y
+  one-located x y p q = one-part-numbers x y (one-place p q)

@@ -1,14 +1,15 @@
 // Tables in memory: text, ends and rows, as the reader writes them.
 use format::FieldNumber;
 use format::Found;
+use format::Part;
 ghost use mathlib.Core.Path.{_≡_};
 ghost use mathlib.Core.List.{[]};
 ghost use Prim.Native.Nat.{_≤_, _<_};
 ghost use lib.ListN.{length, getD};
 ghost use Rattle.format.specs.Memory.{WellFormed, parts, startOf};
-ghost use Rattle.format.specs.Answer.{searchNumbers};
+ghost use Rattle.format.specs.Answer.{searchNumbers, partNumbers};
 ghost use Rattle.tables.specs.Formed.{Decides, Cuts, runsTo};
-ghost use Rattle.tables.specs.Shown.{Shown};
+ghost use Rattle.tables.specs.Shown.{Shown, Located, Numbered};
 ghost use Rattle.tables.specs.Search.{Searched, Repeats, Named, Least};
 
 // Whether three slices are a well formed table.
@@ -33,19 +34,42 @@ pub fn show<'a>(
 ) -> &'a [u8]
     ensures { λ r. ⌜ Shown (now (text .entry)) (now (ends .entry)) (now (rows .entry)) «record» column (now («stand_in» .entry)) (now r) ⌝ }
 {
-    if !is_well_formed(text, ends, rows) {
+    let k = field_number(text, ends, rows, record, column);
+    if ends.len() <= k {
         return stand_in;
     }
+    part_at(text, ends, k)
+}
+
+// Where that field lies in text, for a caller to whom no part can be handed out.
+pub fn locate(text: &[u8], ends: &[u32], rows: &[u32], record: usize, column: usize) -> Part
+    ensures { λ r. ⌜ Located (now (text .entry)) (now (ends .entry)) (now (rows .entry)) «record» column (partNumbers r) ⌝ }
+{
+    let k = field_number(text, ends, rows, record, column);
+    if ends.len() <= k {
+        return Part::Absent;
+    }
+    let first = start_of(ends, k) as u32;
+    Part::Lies(first, ends[k] - first)
+}
+
+// The number of that field in the whole table; or the number of fields, where the table is malformed
+// or has no such place.
+fn field_number(text: &[u8], ends: &[u32], rows: &[u32], record: usize, column: usize) -> usize
+    ensures { λ r. ⌜ Numbered (now (text .entry)) (now (ends .entry)) (now (rows .entry)) «record» column r ⌝ }
+{
+    if !is_well_formed(text, ends, rows) {
+        return ends.len();
+    }
     if rows.len() <= record {
-        return stand_in;
+        return ends.len();
     }
     let first = start_of(rows, record);
     let next = rows[record] as usize;
     if next - first <= column {
-        return stand_in;
+        return ends.len();
     }
-    let k = first + column;
-    part_at(text, ends, k)
+    first + column
 }
 
 // The column, from 0, whose whole name in the header is the name, byte for byte; or why there is none to

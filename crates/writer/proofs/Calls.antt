@@ -65,7 +65,7 @@ module _ {text : Bytes} {t : Table} (same : textOf t ≡ text) where
   one-table (TableOutcome.held h o) (TableOutcome.held i p) = one-file o p
 
 module _ {text : Bytes} {ends rows : List ℕ} {mode : ℕ} {out : Bytes} where
-  one-numbers : {a b : List ℕ} {x y : Bytes} → Outcome text ends rows mode out a x → Outcome text ends rows mode out b y → (a ≡ b) × (x ≡ y)
+  pub one-numbers : {a b : List ℕ} {x y : Bytes} → Outcome text ends rows mode out a x → Outcome text ends rows mode out b y → (a ≡ b) × (x ≡ y)
   one-numbers (Outcome.refusal-1 h) (Outcome.refusal-1 i) = (refl, refl)
   one-numbers (Outcome.refusal-1 h) (Outcome.refusal-14 i n) = absurd (omega arith)
   one-numbers (Outcome.refusal-1 h) (Outcome.well-formed i w o) = absurd (omega arith)

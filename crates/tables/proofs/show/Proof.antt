@@ -1,88 +1,24 @@
 -- `tables::show` meets its contract.
-use Prim.Native.Nat.{_+_, _<_}
-use native.Mathlib.Omega.{arith}
-use lib.ListN.{length}
-use denote.Ref.{now}
-use borrow.Author.Tests.{not-true, not-false}
-use Rattle.format.specs.Memory.{WellFormed}
-use Rattle.format.proofs.Memory.{row-within}
-use Rattle.tables.specs.Shown.{malformed}
+use Rattle.tables.specs.Shown.{Shown}
 use Rattle.tables.proofs.Formed.{cuts}
-use Rattle.tables.proofs.Showing.{lacks-record, lacks-column, shows}
+use Rattle.tables.proofs.Showing.{is-there, is-absent, shows}
 use borrow.Author.Needs.{needs}
 use Rattle.tables.proofs.show.Statement.{statement}
 use Rattle.tables.proofs.show.Tie as tie
 
--- behind the first test the table is well formed
-abbrev begin : tie.Else1 → tie.Start
-begin e = e .before .before .before .before .before .before
-
-formed : (e : tie.Else1) → WellFormed (now (begin e .args .text)) (now (begin e .args .ends)) (now (begin e .args .rows))
-formed e = e .before .is-well-formed .ensures .if-true (not-false (e .before .is-well-formed .result) (e .if1 .left))
-
--- behind the last test the field's end is there
-field-in : (c : tie.Else3) → c .before .before .start-of .result + begin (c .before .before .before .before) .args .column < length (now (begin (c .before .before .before .before) .args .ends))
-field-in c =
-    let t = c .before .before .before in
-    omega (arith, c .if3 .left, row-within (formed (t .before)) _ (t .if2 .left) .1)
-
-is-well-formed-requires : tie.Need-is-well-formed-requires
-is-well-formed-requires c κs = search needs
+field-number-requires : tie.Need-field-number-requires
+field-number-requires c κs = search needs
 
 returns : tie.Need-returns
-returns c = malformed (c .before .is-well-formed .ensures .if-false (not-true (c .before .is-well-formed .result) (c .if1 .taken)))
-
-returns-2 : tie.Need-returns-2
-returns-2 c = lacks-record (formed (c .before)) (c .if2 .taken)
-
-start-of-requires : tie.Need-start-of-requires
-start-of-requires c κs = search needs
-
-mul-next : tie.Need-mul-next
-mul-next c = search needs
-
-shared-slice-read-next : tie.Need-shared-slice-read-next
-shared-slice-read-next c = search needs
-
-cast-next : tie.Need-cast-next
-cast-next c = omega (arith, c .shared-slice-known5 .given (begin (c .before .before .before) .args .record))
-
-sub-if3 : tie.Need-sub-if3
-sub-if3 c =
-    let t = c .before .before in
-    rw (c .before .start-of .ensures) (row-within (formed (t .before)) _ (t .if2 .left) .0)
-
-returns-3 : tie.Need-returns-3
-returns-3 c =
-    let o = c .before .before in
-    let t = o .before in
-    lacks-column (formed (t .before)) (t .if2 .left) (rw (o .start-of .ensures) at (c .if3 .taken))
-
-add-k : tie.Need-add-k
-add-k c = omega (arith, c .if3 .left, c .before .shared-slice-known5 .given (begin (c .before .before .before .before) .args .record))
+returns c = Shown.absent (is-absent (c .before .field-number .ensures) (c .if1 .taken))
 
 part-at-requires : tie.Need-part-at-requires
-part-at-requires c κs = (cuts (formed (c .before .before .before .before)), field-in c)
+part-at-requires c κs = (cuts (is-there (c .before .field-number .ensures) (c .if1 .left) .0 .formed), c .if1 .left)
 
-returns-4 : tie.Need-returns-4
-returns-4 c =
-    let o = c .before .before .before in
-    let t = o .before in
-    shows (formed (t .before)) (o .start-of .ensures) (c .part-at .ensures) (t .if2 .left) (c .before .if3 .left)
+returns-2 : tie.Need-returns-2
+returns-2 c =
+    let e = c .before in
+    shows (e .before .field-number .ensures) (e .if1 .left) (c .part-at .ensures)
 
 pub show-spec : {M : Type 1} → statement M
-show-spec =
-    tie.close
-    (tie.spec
-    is-well-formed-requires
-    returns
-    returns-2
-    start-of-requires
-    mul-next
-    shared-slice-read-next
-    cast-next
-    sub-if3
-    returns-3
-    add-k
-    part-at-requires
-    returns-4)
+show-spec = tie.close (tie.spec field-number-requires returns part-at-requires returns-2)

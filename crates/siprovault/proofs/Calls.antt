@@ -1,0 +1,45 @@
+-- Any two outcomes of an export coincide: its struct is the one that has its numbers, and the promises are those of the functions called.
+use Prim.Native.Nat.{ℕ}
+use mathlib.Core.Path.{_≡_, sym, ap, _∙_}
+use mathlib.Core.List.{List}
+use Rattle.format.specs.Table.{Bytes}
+use Rattle.format.specs.Answer.{readerNumbers}
+use Rattle.pieces.specs.declared.Check.{Check}
+use Rattle.reader.proofs.Calls.{one-outcome}
+use Rattle.tables.specs.Search.{Searched}
+use Rattle.tables.specs.Shown.{Located}
+use Rattle.tables.proofs.Searching.{one-found}
+use Rattle.tables.proofs.Showing.{one-place}
+use Rattle.writer.specs.Write.{Outcome}
+use Rattle.writer.proofs.Calls.{one-numbers}
+use Rattle.siprovault.specs.declared.SvAnswer.{SvAnswer}
+use Rattle.siprovault.specs.declared.SvWritten.{SvWritten}
+use Rattle.siprovault.specs.declared.SvColumn.{SvColumn}
+use Rattle.siprovault.specs.declared.SvPart.{SvPart}
+use Rattle.siprovault.specs.Face.{answerNumbers, writtenNumbers, columnNumbers, placeNumbers, answerFrom, writtenFrom, columnFrom, partFrom, Reads, Asks}
+
+pub one-read :
+    {b sum : ℕ} {f text : Bytes} {ends rows : List ℕ} {r s : SvAnswer} {x x′ : Bytes} {y y′ z z′ : List ℕ}
+    → Reads b sum f text ends rows (answerNumbers r) x y z → Reads b sum f text ends rows (answerNumbers s) x′ y′ z′
+    → (r ≡ s) × (x ≡ x′) × (y ≡ y′) × (z ≡ z′)
+one-read p q =
+    let e = one-outcome (p .outcome) (q .outcome) in
+    (ap answerFrom (p .numbers-are ∙ ap readerNumbers (e .0) ∙ sym (q .numbers-are)), e .1, e .2, e .3)
+
+pub one-ask : {state : Check} {r s : SvAnswer} → Asks state (answerNumbers r) → Asks state (answerNumbers s) → r ≡ s
+one-ask p q =
+    ap answerFrom (p .numbers-are ∙ ap readerNumbers (p .asked .result ∙ sym (q .asked .result)) ∙ sym (q .numbers-are))
+
+module _ {text : Bytes} {ends rows : List ℕ} where
+  pub one-write :
+      {mode : ℕ} {out x y : Bytes} {r s : SvWritten}
+      → Outcome text ends rows mode out (writtenNumbers r) x → Outcome text ends rows mode out (writtenNumbers s) y → (r ≡ s) × (x ≡ y)
+  one-write p q = let e = one-numbers p q in (ap writtenFrom (e .0), e .1)
+
+  pub one-find :
+      {name : Bytes} {r s : SvColumn} → Searched text ends rows name (columnNumbers r) → Searched text ends rows name (columnNumbers s) → r ≡ s
+  one-find p q = ap columnFrom (one-found p q)
+
+  pub one-show :
+      {m n : ℕ} {r s : SvPart} → Located text ends rows m n (placeNumbers r) → Located text ends rows m n (placeNumbers s) → r ≡ s
+  one-show p q = ap partFrom (one-place p q)

@@ -1,0 +1,59 @@
+-- A struct of the face has the numbers of the answer that it was made from.
+use Prim.Native.Nat.{ℕ}
+use mathlib.Core.Path.{_≡_, sym, ap, subst}
+use mathlib.Core.List.{List}
+use Rattle.format.specs.declared.Answer.{Answer, the-variants.Taken, the-variants.Declined}
+use Rattle.format.specs.declared.Written.{Written, the-variants.Whole, the-variants.UnknownMode, the-variants.Malformed, the-variants.Forbidden, the-variants.LongContent, the-variants.Uneven, the-variants.LongFile, the-variants.NoRoom}
+use Rattle.format.specs.declared.Found.{Found, the-variants.At, the-variants.Unfit, the-variants.Twice, the-variants.Missing}
+use Rattle.format.specs.declared.Part.{Part, the-variants.Lies, the-variants.Absent}
+use Rattle.format.specs.Answer.{readerNumbers, writerNumbers, searchNumbers, partNumbers}
+use Rattle.format.specs.Table.{Bytes}
+use Rattle.tables.specs.Search.{Searched}
+use Rattle.tables.specs.Shown.{Located}
+use Rattle.writer.specs.Write.{Outcome}
+use Rattle.siprovault.specs.declared.SvAnswer.{SvAnswer}
+use Rattle.siprovault.specs.declared.SvWritten.{SvWritten}
+use Rattle.siprovault.specs.declared.SvColumn.{SvColumn}
+use Rattle.siprovault.specs.declared.SvPart.{SvPart}
+use Rattle.siprovault.specs.Face.{answerNumbers, writtenNumbers, columnNumbers, placeNumbers, answerFrom, writtenFrom, columnFrom, partFrom}
+
+pub answer-numbers : {r : SvAnswer} (a : Answer) → r ≡ answerFrom (readerNumbers a) → answerNumbers r ≡ readerNumbers a
+answer-numbers (Taken t) e = ap answerNumbers e
+answer-numbers (Declined n p) e = ap answerNumbers e
+
+pub written-numbers : {r : SvWritten} (a : Written) → r ≡ writtenFrom (writerNumbers a) → writtenNumbers r ≡ writerNumbers a
+written-numbers (Whole n) e = ap writtenNumbers e
+written-numbers UnknownMode e = ap writtenNumbers e
+written-numbers Malformed e = ap writtenNumbers e
+written-numbers (Forbidden b) e = ap writtenNumbers e
+written-numbers (LongContent k) e = ap writtenNumbers e
+written-numbers (Uneven r) e = ap writtenNumbers e
+written-numbers LongFile e = ap writtenNumbers e
+written-numbers NoRoom e = ap writtenNumbers e
+
+pub column-numbers : {r : SvColumn} (a : Found) → r ≡ columnFrom (searchNumbers a) → columnNumbers r ≡ searchNumbers a
+column-numbers (At k) e = ap columnNumbers e
+column-numbers Unfit e = ap columnNumbers e
+column-numbers (Twice k) e = ap columnNumbers e
+column-numbers Missing e = ap columnNumbers e
+
+pub place-numbers : {r : SvPart} (a : Part) → r ≡ partFrom (partNumbers a) → placeNumbers r ≡ partNumbers a
+place-numbers (Lies start n) e = ap placeNumbers e
+place-numbers Absent e = ap placeNumbers e
+
+-- so a promise that is met by an answer is met by its struct
+module _ {text : Bytes} {ends rows : List ℕ} where
+  pub writes :
+      {mode : ℕ} {out out′ : Bytes} {r : SvWritten} (a : Written)
+      → Outcome text ends rows mode out (writerNumbers a) out′ → r ≡ writtenFrom (writerNumbers a) → Outcome text ends rows mode out (writtenNumbers r) out′
+  writes {mode} {out} {out′} a o e = subst (λ (l : List ℕ). Outcome text ends rows mode out l out′) (sym (written-numbers a e)) o
+
+  pub finds :
+      {name : Bytes} {r : SvColumn} (a : Found)
+      → Searched text ends rows name (searchNumbers a) → r ≡ columnFrom (searchNumbers a) → Searched text ends rows name (columnNumbers r)
+  finds {name} a o e = subst (Searched text ends rows name) (sym (column-numbers a e)) o
+
+  pub shows :
+      {record′ column : ℕ} {r : SvPart} (a : Part)
+      → Located text ends rows record′ column (partNumbers a) → r ≡ partFrom (partNumbers a) → Located text ends rows record′ column (placeNumbers r)
+  shows {record′} {column} a o e = subst (Located text ends rows record′ column) (sym (place-numbers a e)) o

@@ -1,0 +1,58 @@
+//! Writes cases with the answers that the model expects, for the driver to replay.
+
+use std::io::{self, BufWriter};
+
+mod model;
+
+#[path = "cases/content_limit.rs"]
+mod content_limit;
+#[path = "cases/dialect_bytes.rs"]
+mod dialect_bytes;
+#[path = "cases/file_limit.rs"]
+mod file_limit;
+#[path = "cases/hand_states.rs"]
+mod hand_states;
+#[path = "cases/headers.rs"]
+mod headers;
+#[path = "cases/laws.rs"]
+mod laws;
+#[path = "cases/malformed.rs"]
+mod malformed;
+#[path = "cases/paper.rs"]
+mod paper;
+#[path = "cases/random.rs"]
+mod random;
+#[path = "cases/random_files.rs"]
+mod random_files;
+#[path = "cases/random_tables.rs"]
+mod random_tables;
+#[path = "cases/rooms.rs"]
+mod rooms;
+#[path = "cases/short_files.rs"]
+mod short_files;
+#[path = "cases/small_tables.rs"]
+mod small_tables;
+#[path = "cases/stream.rs"]
+mod stream;
+#[path = "cases/writer_order.rs"]
+mod writer_order;
+
+fn main() -> io::Result<()> {
+    laws::hold_of_the_model();
+    let out = BufWriter::with_capacity(1 << 16, io::stdout());
+    let mut stream = stream::Stream::new(out)?;
+    paper::send(&mut stream)?;
+    short_files::send(&mut stream)?;
+    dialect_bytes::send(&mut stream)?;
+    rooms::send(&mut stream)?;
+    random_files::send(&mut stream)?;
+    content_limit::send(&mut stream)?;
+    file_limit::send(&mut stream)?;
+    hand_states::send(&mut stream)?;
+    small_tables::send(&mut stream)?;
+    writer_order::send(&mut stream)?;
+    random_tables::send(&mut stream)?;
+    malformed::send(&mut stream)?;
+    headers::send(&mut stream)?;
+    stream.finish()
+}

@@ -1,0 +1,60 @@
+//! Files at the size limit and one byte over it.
+
+use crate::model::reader::{Answer, Room};
+use crate::model::{refusal, FILE_LIMIT};
+use crate::rooms::{changed, exact};
+use crate::stream::{Piece, Recipe, Stream};
+use std::io::{self, Write};
+
+const STRICT: (u8, u8) = (b',', 0);
+const LF: (u8, u8) = (b',', 1);
+const BLANKS: (u8, u8) = (b';', 2);
+const UNKNOWN: (u8, u8) = (b'a', 16);
+
+pub fn send<W: Write>(stream: &mut Stream<W>) -> io::Result<()> {
+    stream.section("files of 16,777,216 and 16,777,217 bytes")?;
+    let full = FILE_LIMIT;
+    // As many fields as there can be, as many records, and as much text.
+    send_one(stream, STRICT, &[(b",", full)], &[1])?;
+    send_one(stream, LF, &[(b"\n", full)], &[1])?;
+    let line = [vec![b'a'; 4_094], b"\r\n".to_vec()].concat();
+    send_one(stream, STRICT, &[(&line, full / line.len())], &[])?;
+    // The greatest column, the greatest line, and an opening quote far behind.
+    send_one(stream, STRICT, &[(b",", full - 1), (b"\x01", 1)], &[])?;
+    send_one(stream, LF, &[(b"\n", full - 1), (b"\r", 1)], &[1, 3])?;
+    send_one(stream, STRICT, &[(b"\"", 1), (b"a", full - 1)], &[])?;
+    // Blanks that are dropped, and as many bytes that are not.
+    send_one(stream, BLANKS, &[(b" ", full - 1), (b"a", 1)], &[])?;
+    send_one(stream, STRICT, &[(b"a", full)], &[])?;
+    // An early fault stays until the file is too long; a bad dialect comes before that.
+    send_one(stream, STRICT, &[(b"\"\"a", 1), (b"a", full - 3)], &[1, 1])?;
+    send_one(stream, UNKNOWN, &[(b"a", full)], &[1])
+}
+
+/// The file of these parts, and, where more bytes follow, the longer file too.
+fn send_one<W: Write>(
+    stream: &mut Stream<W>,
+    dialect: (u8, u8),
+    parts: &[(&[u8], usize)],
+    more: &[usize],
+) -> io::Result<()> {
+    let own = |&(part, times): &(&[u8], usize)| (part.to_vec(), times);
+    let mut recipe: Recipe = parts.iter().map(own).collect();
+    let mut pieces: Vec<Piece> = vec![(65_536, FILE_LIMIT / 65_536)];
+    stream.long(dialect, &recipe, &pieces, rooms)?;
+    if !more.is_empty() {
+        pieces.extend(more.iter().map(|&length| (length, 1)));
+        recipe.push((b"\n".to_vec(), more.iter().sum()));
+        stream.long(dialect, &recipe, &pieces, rooms)?;
+    }
+    Ok(())
+}
+
+/// A file of this size is read once with exactly enough room and once with an end too few.
+fn rooms(answer: &Answer) -> Vec<Room> {
+    if answer.refusal == refusal::ACCEPTED {
+        vec![exact(answer), changed(answer, 2)]
+    } else {
+        vec![changed(answer, 0)]
+    }
+}

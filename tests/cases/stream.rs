@@ -1,0 +1,265 @@
+//! The form in which cases travel to the driver.
+//!
+//! The stream is the eight bytes `SVCASES1`, then items, each a letter and what belongs to it.
+//! A number takes seven bits to a byte, the lowest first, and the top bit says that more follow.
+//! An answer is a mask byte of its numbers that are not 0, then these numbers. A list is its
+//! length, then its entries: up to `PLAIN_LIST` of them one by one, more than that in runs of
+//! first entry, step (zigzag) and count.
+//!
+//! - `S`, a section begins: its name as a list.
+//! - `D`, a dialect, and the walked file is empty again: delimiter and leniencies as bytes, the
+//!   answer for the empty file.
+//! - `W`, a walked file: how many bytes of the file before it stay and how many come, each of these
+//!   with the answer so far; the outcome.
+//! - `L`, a long file: delimiter and leniencies; how many parts, each a list and how often it
+//!   stands; how many pieces, each its length, how often it is fed and the answer so far; the
+//!   outcome. A dialect comes before the next walked file.
+//! - `T`, a table: text, ends and rows as lists; how many writes, finds and shows, and each of them.
+//! - `C`, a check state put together by hand: delimiter and leniencies, the list fed first, a seed,
+//!   how many places are hit (0: all), the list fed then.
+//! - `E`, the trailer: how many sections, and for each how many items `W`, `L`, `T` and `C`.
+//!
+//! An outcome is the table's three lists if the last answer accepts, then trials of room: how
+//! many, each with places in text, ends and rows and the answer. A write is a mode as a byte, room,
+//! answer and, if it accepts, the list written. A find is name and answer, a show record, column
+//! and answer.
+
+use crate::model::header::{find_column, show};
+use crate::model::reader::{check, read, Answer, Room};
+use crate::model::refusal;
+use crate::model::table::Table;
+use crate::model::writer::write;
+use std::io::{self, Write};
+
+/// Lists of at most this many entries are sent entry by entry.
+const PLAIN_LIST: usize = 64;
+
+/// A file as parts, each standing a number of times.
+pub type Recipe = Vec<(Vec<u8>, usize)>;
+
+/// A piece to be fed, and how often before the check is asked.
+pub type Piece = (usize, usize);
+
+/// A check state put together by hand: a real one, then bytes of it hit.
+pub struct HandState<'a> {
+    pub delimiter: u8,
+    pub leniencies: u8,
+    pub fed_first: &'a [u8],
+    pub seed: u64,
+    pub hits: u64,
+    pub fed_then: &'a [u8],
+}
+
+pub struct Stream<W: Write> {
+    out: W,
+    counts: Vec<u64>,
+    delimiter: u8,
+    leniencies: u8,
+    walked: Vec<u8>,
+}
+
+impl<W: Write> Stream<W> {
+    pub fn new(mut out: W) -> io::Result<Stream<W>> {
+        out.write_all(b"SVCASES1")?;
+        Ok(Stream {
+            out,
+            counts: Vec::new(),
+            delimiter: 0,
+            leniencies: 0,
+            walked: Vec::new(),
+        })
+    }
+
+    pub fn section(&mut self, name: &str) -> io::Result<()> {
+        self.counts.push(0);
+        self.out.write_all(b"S")?;
+        self.list(name.as_bytes())
+    }
+
+    pub fn dialect(&mut self, delimiter: u8, leniencies: u8) -> io::Result<()> {
+        self.delimiter = delimiter;
+        self.leniencies = leniencies;
+        self.walked.clear();
+        self.out.write_all(&[b'D', delimiter, leniencies])?;
+        self.answer(&check(&[], delimiter, leniencies).0.numbers())
+    }
+
+    /// A file in the dialect given last. Every prefix that is not one of the file before it comes
+    /// with its answer, so files in the order of a tree's walk cost one step each.
+    pub fn walk(&mut self, file: &[u8], rooms: impl Fn(&Answer) -> Vec<Room>) -> io::Result<()> {
+        self.item(b'W')?;
+        let pairs = self.walked.iter().zip(file);
+        let kept = pairs.take_while(|(old, new)| old == new).count();
+        self.number(kept as u64)?;
+        self.number((file.len() - kept) as u64)?;
+        for length in kept + 1..=file.len() {
+            let (answer, _) = check(&file[..length], self.delimiter, self.leniencies);
+            self.out.write_all(&[file[length - 1]])?;
+            self.answer(&answer.numbers())?;
+        }
+        self.walked = file.to_vec();
+        self.outcome(file, (self.delimiter, self.leniencies), rooms)
+    }
+
+    pub fn long(
+        &mut self,
+        (delimiter, leniencies): (u8, u8),
+        recipe: &Recipe,
+        pieces: &[Piece],
+        rooms: impl Fn(&Answer) -> Vec<Room>,
+    ) -> io::Result<()> {
+        self.item(b'L')?;
+        self.out.write_all(&[delimiter, leniencies])?;
+        let mut file = Vec::new();
+        self.number(recipe.len() as u64)?;
+        for (part, times) in recipe {
+            self.list(part)?;
+            self.number(*times as u64)?;
+            file.extend(part.repeat(*times));
+        }
+        let mut fed = 0;
+        self.number(pieces.len() as u64)?;
+        for &(length, times) in pieces {
+            fed += length * times;
+            self.number(length as u64)?;
+            self.number(times as u64)?;
+            self.answer(&check(&file[..fed], delimiter, leniencies).0.numbers())?;
+        }
+        assert_eq!(fed, file.len(), "the pieces are the whole file");
+        self.outcome(&file, (delimiter, leniencies), rooms)
+    }
+
+    pub fn table(
+        &mut self,
+        table: &Table,
+        writes: &[(u8, usize)],
+        names: &[&[u8]],
+        places: &[(u64, u64)],
+    ) -> io::Result<()> {
+        self.item(b'T')?;
+        self.three_lists(table)?;
+        self.number(writes.len() as u64)?;
+        for &(mode, room) in writes {
+            let (answer, file) = write(table, mode, room);
+            self.out.write_all(&[mode])?;
+            self.number(room as u64)?;
+            self.answer(&answer.numbers())?;
+            if let Some(file) = file {
+                self.list(&file)?;
+            }
+        }
+        self.number(names.len() as u64)?;
+        for name in names {
+            self.list(name)?;
+            self.answer(&find_column(table, name).numbers())?;
+        }
+        self.number(places.len() as u64)?;
+        for &(record, column) in places {
+            self.number(record)?;
+            self.number(column)?;
+            self.answer(&show(table, record, column).numbers())?;
+        }
+        Ok(())
+    }
+
+    pub fn hand_state(&mut self, state: &HandState) -> io::Result<()> {
+        self.item(b'C')?;
+        self.out.write_all(&[state.delimiter, state.leniencies])?;
+        self.list(state.fed_first)?;
+        self.number(state.seed)?;
+        self.number(state.hits)?;
+        self.list(state.fed_then)
+    }
+
+    /// The trailer, without which the driver takes no stream as whole.
+    pub fn finish(mut self) -> io::Result<()> {
+        self.out.write_all(b"E")?;
+        let counts = std::mem::take(&mut self.counts);
+        self.number(counts.len() as u64)?;
+        for count in counts {
+            self.number(count)?;
+        }
+        self.out.flush()
+    }
+
+    fn item(&mut self, letter: u8) -> io::Result<()> {
+        *self.counts.last_mut().expect("a section has begun") += 1;
+        self.out.write_all(&[letter])
+    }
+
+    fn outcome(
+        &mut self,
+        file: &[u8],
+        (delimiter, leniencies): (u8, u8),
+        rooms: impl Fn(&Answer) -> Vec<Room>,
+    ) -> io::Result<()> {
+        let (answer, table) = check(file, delimiter, leniencies);
+        if let Some(table) = table {
+            self.three_lists(&table)?;
+        }
+        let rooms = rooms(&answer);
+        self.number(rooms.len() as u64)?;
+        for room in rooms {
+            for places in [room.text, room.ends, room.rows] {
+                self.number(places as u64)?;
+            }
+            let (answer, table) = read(file, delimiter, leniencies, room);
+            assert_eq!(table.is_some(), answer.refusal == refusal::ACCEPTED);
+            self.answer(&answer.numbers())?;
+        }
+        Ok(())
+    }
+
+    fn three_lists(&mut self, table: &Table) -> io::Result<()> {
+        self.list(&table.text)?;
+        self.list(&table.ends)?;
+        self.list(&table.rows)
+    }
+
+    fn list<T: Copy + Into<u32>>(&mut self, list: &[T]) -> io::Result<()> {
+        self.number(list.len() as u64)?;
+        if list.len() <= PLAIN_LIST {
+            return list.iter().try_for_each(|&e| self.number(e.into().into()));
+        }
+        let mut at = 0;
+        while at < list.len() {
+            let (step, count) = run_at(&list[at..]);
+            self.number(list[at].into().into())?;
+            self.number(((step << 1) ^ (step >> 63)) as u64)?;
+            self.number(count as u64)?;
+            at += count;
+        }
+        Ok(())
+    }
+
+    fn answer(&mut self, numbers: &[u32]) -> io::Result<()> {
+        let mut mask = 0;
+        for (bit, &number) in numbers.iter().enumerate() {
+            mask |= u8::from(number != 0) << bit;
+        }
+        self.out.write_all(&[mask])?;
+        for &number in numbers.iter().filter(|&&n| n != 0) {
+            self.number(number.into())?;
+        }
+        Ok(())
+    }
+
+    fn number(&mut self, mut number: u64) -> io::Result<()> {
+        while number >= 0x80 {
+            self.out.write_all(&[number as u8 | 0x80])?;
+            number >>= 7;
+        }
+        self.out.write_all(&[number as u8])
+    }
+}
+
+/// The step and the length of the longest run of equal steps at the front of a list.
+fn run_at<T: Copy + Into<u32>>(list: &[T]) -> (i64, usize) {
+    let entry = |at: usize| -> i64 { list[at].into().into() };
+    if list.len() == 1 {
+        return (0, 1);
+    }
+    let step = entry(1) - entry(0);
+    let run = (2..list.len()).take_while(|&at| entry(at) - entry(at - 1) == step);
+    (step, 2 + run.count())
+}

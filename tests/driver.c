@@ -1,0 +1,81 @@
+/* Replays the cases of standard input against the library, and compares everything. */
+#include "driver/cases.h"
+#include "driver/face.h"
+#include "driver/report.h"
+#include "driver/stream.h"
+
+#include <stdio.h>
+
+static void take_magic(void)
+{
+    for (const char *magic = "SVCASES1"; *magic != '\0'; magic++)
+        if (take_byte() != (uint8_t)*magic)
+            broken_stream("it does not begin as one");
+}
+
+static void take_section(void)
+{
+    static struct list name;
+    if (name.end == NULL)
+        list_open(&name, sizeof(uint8_t), 256);
+    take_list(&name);
+    section_begins(list_start(&name), name.length);
+}
+
+static void take_trailer(void)
+{
+    if (take_number() != sections_begun())
+        broken_stream("sections are missing");
+    for (uint64_t section = 0; section < sections_begun(); section++)
+        if (take_number() != cases_of(section))
+            broken_stream("cases are missing");
+    if (!stream_ends())
+        broken_stream("more follows its trailer");
+}
+
+/* Takes one item; answers whether it was the trailer. */
+static bool take_item(void)
+{
+    uint8_t letter = take_byte();
+    switch (letter) {
+    case 'S':
+        take_section();
+        break;
+    case 'D':
+        take_dialect();
+        break;
+    case 'W':
+        take_walked_file();
+        break;
+    case 'L':
+        take_long_file();
+        break;
+    case 'T':
+        take_table();
+        break;
+    case 'C':
+        take_hand_state();
+        break;
+    case 'E':
+        take_trailer();
+        break;
+    default:
+        broken_stream("an item of no known kind");
+    }
+    return letter == 'E';
+}
+
+int main(void)
+{
+    watch_for_crashes();
+    files_open();
+    tables_open();
+    states_open();
+    take_magic();
+    while (!take_item())
+        continue;
+    uint64_t disagreements = print_counts();
+    print_calls();
+    printf("%lu disagreements\n", (unsigned long)disagreements);
+    return disagreements != 0;
+}

@@ -1,0 +1,16 @@
+/* The kinds of case, one function for each letter of the stream. */
+#ifndef CASES_H
+#define CASES_H
+
+/* Makes room for the cases of each kind, once. */
+void files_open(void);
+void tables_open(void);
+void states_open(void);
+
+void take_dialect(void);
+void take_walked_file(void);
+void take_long_file(void);
+void take_table(void);
+void take_hand_state(void);
+
+#endif

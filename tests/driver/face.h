@@ -1,0 +1,54 @@
+/* The library's calls, counted, with answers as plain numbers. */
+#ifndef FACE_H
+#define FACE_H
+
+#include "memory.h"
+#include "siprovault.h"
+
+struct dialect {
+    uint8_t delimiter;
+    uint8_t leniencies;
+};
+
+/* A table to hand in, or one that is expected. */
+struct table {
+    struct list text;
+    struct list ends;
+    struct list rows;
+};
+
+/* Buffers to read into. */
+struct lent_table {
+    struct lent text;
+    struct lent ends;
+    struct lent rows;
+};
+
+struct room {
+    size_t text;
+    size_t ends;
+    size_t rows;
+};
+
+void table_open(struct table *table);
+void lent_table_open(struct lent_table *lent);
+
+void call_read(const struct list *file, struct dialect dialect, struct lent_table *into,
+               struct room room, uint32_t *answer);
+void call_read_strict(const struct list *file, struct lent_table *into, struct room room,
+                      uint32_t *answer);
+sv_check call_start(struct dialect dialect);
+sv_check call_feed(sv_check state, const uint8_t *piece, size_t length);
+void call_ask(sv_check state, uint32_t *answer);
+void call_write(const struct table *table, uint8_t mode, struct lent *out, size_t room,
+                uint32_t *answer);
+void call_find_column(const struct table *table, const struct list *name, uint32_t *answer);
+void call_show(const struct table *table, size_t record, size_t column, uint32_t *answer);
+
+/* What the header's inline function hands out for the numbers of a part. */
+sv_bytes shown_of(const struct table *table, const uint32_t *part, const uint8_t *stand_in,
+                  size_t stand_in_length);
+
+void print_calls(void);
+
+#endif

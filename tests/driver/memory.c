@@ -1,0 +1,104 @@
+#include "memory.h"
+
+#include "report.h"
+
+#include <stdlib.h>
+#include <string.h>
+#include <sys/mman.h>
+
+enum { PAGE = 4096, GUARD = 16 };
+
+/* A coin that falls the same way in every run. */
+static bool coin(void)
+{
+    static uint32_t state = 1;
+    state = state * 1664525 + 1013904223;
+    return state >> 31 != 0;
+}
+
+/* Fresh memory of at least `size` bytes; the end of what may be touched goes to `end`. */
+static uint8_t *fresh(size_t size, uint8_t **end)
+{
+    size_t whole = (size + PAGE - 1) / PAGE * PAGE;
+    uint8_t *area = mmap(NULL, whole + PAGE, PROT_READ | PROT_WRITE,
+                         MAP_PRIVATE | MAP_ANONYMOUS | MAP_NORESERVE, -1, 0);
+    if (area == MAP_FAILED || mprotect(area + whole, PAGE, PROT_NONE) != 0)
+        exit(3);
+    *end = area + whole;
+    return area;
+}
+
+void list_open(struct list *list, size_t width, size_t most)
+{
+    fresh(most * width, &list->end);
+    list->capacity = most;
+    list->width = width;
+    list->length = 0;
+}
+
+void list_resize(struct list *list, size_t length)
+{
+    if (length > list->capacity)
+        broken_stream("a list is too long");
+    list->length = length;
+}
+
+void *list_start(const struct list *list) { return list->end - list->length * list->width; }
+
+const void *or_null(const void *start, size_t length)
+{
+    return length == 0 && coin() ? NULL : start;
+}
+
+void lent_open(struct lent *lent, const char *name, size_t width, size_t most)
+{
+    uint8_t *end;
+    lent->area = fresh(GUARD + most * width + GUARD, &end);
+    lent->name = name;
+    lent->capacity = most;
+    lent->width = width;
+}
+
+static size_t bytes_of(const struct lent *lent) { return GUARD + lent->room * lent->width + GUARD; }
+
+void *lend(struct lent *lent, size_t room)
+{
+    if (room > lent->capacity)
+        broken_stream("more room than the driver has");
+    lent->room = room;
+    /* Two fillings, so that no byte written can pass for untouched in both. */
+    lent->fill = coin() ? 0xC3 : 0x3C;
+    memset(lent->area, lent->fill, bytes_of(lent));
+    return (void *)or_null(lent->area + GUARD, room);
+}
+
+static bool all_filled(const uint8_t *bytes, size_t size, uint8_t fill)
+{
+    return size == 0 || (bytes[0] == fill && memcmp(bytes, bytes + 1, size - 1) == 0);
+}
+
+static void find(const struct lent *lent, const uint8_t *used, size_t size,
+                 struct difference *where)
+{
+    for (size_t i = 0; i < bytes_of(lent); i++) {
+        bool is_used = i >= GUARD && i < GUARD + size;
+        where->expected = is_used ? used[i - GUARD] : lent->fill;
+        where->came = lent->area[i];
+        where->entry = ((ptrdiff_t)i - GUARD) / (ptrdiff_t)lent->width;
+        if (where->expected != where->came)
+            return;
+    }
+}
+
+bool lent_holds(const struct lent *lent, const struct list *used, struct difference *where)
+{
+    const uint8_t *bytes = used == NULL ? NULL : list_start(used);
+    size_t size = used == NULL ? 0 : used->length * used->width;
+    size_t behind = GUARD + size;
+    if (all_filled(lent->area, GUARD, lent->fill) &&
+        (size == 0 || memcmp(lent->area + GUARD, bytes, size) == 0) &&
+        all_filled(lent->area + behind, bytes_of(lent) - behind, lent->fill))
+        return true;
+    find(lent, bytes, size, where);
+    return false;
+}

@@ -1,0 +1,79 @@
+#include "stream.h"
+
+#include "report.h"
+
+#include <unistd.h>
+
+/* Lists of at most this many entries come entry by entry. */
+enum { PLAIN_LIST = 64 };
+
+static uint8_t buffer[65536];
+static size_t at, filled;
+
+static bool refill(void)
+{
+    ssize_t got = read(0, buffer, sizeof buffer);
+    at = 0;
+    filled = got > 0 ? (size_t)got : 0;
+    return filled > 0;
+}
+
+bool stream_ends(void) { return at == filled && !refill(); }
+
+uint8_t take_byte(void)
+{
+    if (at == filled && !refill())
+        broken_stream("it ends before its trailer");
+    return buffer[at++];
+}
+
+uint64_t take_number(void)
+{
+    uint64_t number = 0;
+    unsigned shift = 0;
+    uint8_t byte;
+    do {
+        if (shift > 63)
+            broken_stream("a number without end");
+        byte = take_byte();
+        number |= (uint64_t)(byte & 0x7F) << shift;
+        shift += 7;
+    } while (byte >= 0x80);
+    return number;
+}
+
+void take_answer(uint32_t *into, unsigned count)
+{
+    uint8_t mask = take_byte();
+    for (unsigned i = 0; i < count; i++)
+        into[i] = mask >> i & 1 ? (uint32_t)take_number() : 0;
+}
+
+static void put(struct list *into, size_t index, uint64_t entry)
+{
+    if (into->width == 1)
+        ((uint8_t *)list_start(into))[index] = (uint8_t)entry;
+    else
+        ((uint32_t *)list_start(into))[index] = (uint32_t)entry;
+}
+
+void take_list(struct list *into)
+{
+    size_t length = take_number();
+    list_resize(into, length);
+    if (length <= PLAIN_LIST) {
+        for (size_t i = 0; i < length; i++)
+            put(into, i, take_number());
+        return;
+    }
+    for (size_t i = 0; i < length;) {
+        uint64_t entry = take_number();
+        uint64_t zigzag = take_number();
+        uint64_t step = zigzag >> 1 ^ (0 - (zigzag & 1));
+        uint64_t count = take_number();
+        if (count == 0 || count > length - i)
+            broken_stream("a run is longer than its list");
+        for (; count > 0; count--, entry += step)
+            put(into, i++, entry);
+    }
+}

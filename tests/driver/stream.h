@@ -1,0 +1,20 @@
+/* The stream of cases on standard input; cases/stream.rs says what form it has. */
+#ifndef STREAM_H
+#define STREAM_H
+
+#include "memory.h"
+
+#include <stdbool.h>
+
+uint8_t take_byte(void);
+uint64_t take_number(void);
+
+/* The numbers of an answer. */
+void take_answer(uint32_t *into, unsigned count);
+
+void take_list(struct list *into);
+
+/* Whether no byte is left. */
+bool stream_ends(void);
+
+#endif

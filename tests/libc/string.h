@@ -1,0 +1,11 @@
+#ifndef TESTS_STRING_H
+#define TESTS_STRING_H
+
+#include <stddef.h>
+
+int memcmp(const void *one, const void *other, size_t size);
+void *memcpy(void *restrict to, const void *restrict from, size_t size);
+void *memmove(void *to, const void *from, size_t size);
+void *memset(void *to, int byte, size_t size);
+
+#endif
