@@ -12,18 +12,22 @@
  *   call. With length 0 it may be NULL.
  * - A buffer that is written overlaps no other argument of the call.
  *
- * Refusals:
+ * Refusals, with the place that each names in a file; a place is a line, a column and a byte. Byte counts
+ * from 0. Line is 1 plus the LF bytes before it, quoted ones included; column is 1 plus the bytes since
+ * the last LF, or since the file's beginning.
  *    0  accepted
  *    1  unknown delimiter, sum of leniencies above 15, or a writer's mode other than 0 and 1
  *    2  file longer than 16,777,216 bytes
- *    3  forbidden byte
- *    4  quote in a bare field
- *    5  wrong byte after a closing quote
- *    6  CR outside quotes without LF next
- *    7  LF alone, not allowed
- *    8  quoted field still open at the end
- *    9  content of a field over 4,096 bytes
- *   10  record with another number of fields than the first
+ *    3  forbidden byte: that byte. 0x7F and control bytes other than CR and LF are forbidden, between
+ *       quotes too; so are 0x80 to 0xFF and tab without "bytes", but for tab as the delimiter
+ *    4  quote in a bare field: that quote
+ *    5  wrong byte after a closing quote: that byte
+ *    6  CR outside quotes without LF next: the CR
+ *    7  LF alone, not allowed: that LF
+ *    8  quoted field still open at the end: its opening quote
+ *    9  content of a field over 4,096 bytes: the field's first byte, a quote or a blank included
+ *   10  record with another number of fields than the first: the first byte of its line break, or the
+ *       file's length
  *   11  no room in text
  *   12  no room in ends
  *   13  no room in rows
@@ -43,17 +47,20 @@ extern "C" {
 #endif
 
 /*
- * A table in memory. text has all contents joined; ends has, for each field, the length of text behind
- * it; rows has, for each record, the number of fields so far. It is well formed if rows rise strictly
- * from at least 1, the last row is the number of ends, ends never fall and the last end is the length
- * of text; with no rows, ends and text are empty.
+ * A table in memory. text has all contents joined; ends has, for each field, the length of text up to
+ * and with it; rows has, for each record, the number of fields up to and with it. It is well formed if
+ * rows rise strictly from at least 1, the last row is the number of ends, ends never fall and the last
+ * end is the length of text; with no rows, ends and text are empty.
  *
  * A dialect is a delimiter (comma, semicolon, tab or bar) and a sum of leniencies:
  *   1  lf      LF outside quotes, not after CR, ends a record
- *   2  blanks  spaces around a field are dropped
+ *   2  blanks  0x20 at either end of a bare field, before an opening quote or after a closing one, is
+ *              dropped
  *   4  ragged  records may have unequal numbers of fields
  *   8  bytes   0x80 to 0xFF and tab count as text
- * Strict is comma with sum 0.
+ * Strict is comma with sum 0: RFC 4180 under the house rules, which are that a line break at the file's
+ * end closes the last record and no empty record follows it, that the empty file holds no records, that
+ * every record has as many fields as the first, and the two limits.
  */
 
 /*
@@ -68,13 +75,14 @@ typedef struct {
 
 /*
  * Reads a file in a dialect into text, ends and rows. 1, then 2, then the fault found earliest, at one
- * byte the smallest number (3 to 10), then 11, 12, 13 where a buffer is too small.
+ * byte the smallest number (3 to 10), then 11, 12, 13 where a buffer is too small. What is read is handed
+ * on with the lengths of the answer (text, fields for ends, records for rows), not of the buffers.
  */
 sv_answer sv_read(const uint8_t *file, size_t file_len, uint8_t delimiter, uint8_t leniencies,
                   uint8_t *text, size_t text_len, uint32_t *ends, size_t ends_len, uint32_t *rows,
                   size_t rows_len);
 
-/* Reads a strict file: RFC 4180 under the house rules. The same as sv_read at comma and sum 0. */
+/* Reads a strict file: the same as sv_read at comma and sum 0. */
 sv_answer sv_read_strict(const uint8_t *file, size_t file_len, uint8_t *text, size_t text_len,
                          uint32_t *ends, size_t ends_len, uint32_t *rows, size_t rows_len);
 
@@ -83,9 +91,10 @@ typedef struct {
 } sv_place;
 
 /*
- * A check's state: numbers alone, without pointers, to be kept and copied as the caller likes. Any bit
- * pattern is a state that is safe to feed and to ask, and gives one answer; one that sv_check_start
- * began and sv_check_feed went on with stands for the bytes fed. The fields are no promise.
+ * A check's state: numbers alone, without pointers, to be kept and copied as the caller likes. One that
+ * sv_check_start began and sv_check_feed went on with stands for the bytes fed. Any other bit pattern is
+ * safe to feed and to ask too, and gives one answer, whatever that may be. The fields are no promise, and
+ * nor are the bytes between them.
  */
 typedef struct {
     uint8_t delimiter, leniencies, refusal, form, begun;
@@ -105,7 +114,7 @@ typedef struct {
 /* Starts a check with a dialect. */
 sv_check sv_check_start(uint8_t delimiter, uint8_t leniencies);
 
-/* The state behind a piece of any length, 0 included. */
+/* The state after a piece of any length, 0 included. */
 sv_check sv_check_feed(sv_check state, const uint8_t *piece, size_t piece_len);
 
 /*
@@ -116,9 +125,9 @@ sv_check sv_check_feed(sv_check state, const uint8_t *piece, size_t piece_len);
 sv_answer sv_check_ask(sv_check state);
 
 /*
- * The answer of a write. Accepted: the written length, and 0 else. Refused: the number; line and column
- * are 0, and byte is the index of the text byte for 3, of the field for 9 and of the record for 10, each
- * from 0, and 0 for the others.
+ * The answer of a write. Accepted: length is the written length, and the others are 0. Refused: refusal is
+ * the number, and line, column and length are 0; byte is the index of the text byte for 3, of the field
+ * in the whole table for 9 and of the record for 10, each from 0, and 0 for the others.
  */
 typedef struct {
     uint32_t refusal, line, column, byte;
@@ -127,8 +136,9 @@ typedef struct {
 
 /*
  * Writes a table as a strict file, each record with CRLF, the last too. Mode 0 is plain: a field is
- * quoted exactly if it holds a comma, a quote, CR or LF. Mode 1 is full: every field is quoted. Checks in
- * this order: 1, 14, 3, 9, 10, 2, 15, with the lowest index. What is written reads back as the table.
+ * quoted exactly if it holds a comma, a quote, CR or LF. Mode 1 is full: every field is quoted. Quotes
+ * inside are doubled. The checks come in this order: 1, 14, 3 (a byte outside 0x20 to 0x7E, CR and LF), 9,
+ * 10, 2, 15, each with the lowest index. What is written reads back as the table.
  */
 sv_written sv_write(const uint8_t *text, size_t text_len, const uint32_t *ends, size_t ends_len,
                     const uint32_t *rows, size_t rows_len, uint8_t mode, uint8_t *out, size_t out_len);
@@ -166,7 +176,7 @@ static inline sv_bytes sv_shown(const uint8_t *text, sv_part part, const uint8_t
 {
     sv_bytes shown;
     if (part.found) {
-        shown.bytes = part.length ? text + part.start : text;
+        shown.bytes = part.start ? text + part.start : text;
         shown.length = part.length;
     } else {
         shown.bytes = stand_in;

@@ -96,8 +96,7 @@ static void hand_out(const uint32_t *part)
     static const uint8_t stand_in[2];
     const uint8_t *text = list_start(&table.text);
     sv_bytes shown = shown_of(&table, part, stand_in, sizeof stand_in);
-    bool same = part[0] ? shown.length == part[2] &&
-                              (part[2] == 0 || shown.bytes == text + part[1])
+    bool same = part[0] ? shown.length == part[2] && shown.bytes == text + part[1]
                         : shown.length == sizeof stand_in && shown.bytes == stand_in;
     if (!same)
         disagree("sv_shown hands out another part");

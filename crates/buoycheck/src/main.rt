@@ -3,14 +3,12 @@
 use format::Answer;
 use pieces::Check;
 
-const FILE_LIMIT: usize = 16777216;
-
 fn main() {
     let mut space = io::large_buffer();
     let buffer: &mut [u8] = &mut space;
     let mut check = Check::start(b',', 0);
     let mut total: usize = 0;
-    while total <= FILE_LIMIT {
+    while total <= format::FILE_LIMIT as usize {
         let got = libc::read(0, buffer);
         if got < 0 {
             complain();

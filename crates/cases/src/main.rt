@@ -48,28 +48,39 @@ fn long_contents() {
 }
 
 fn strict(name: &[u8], file: &[u8]) {
-    lenient(name, file, b"strict", 0);
+    let mut text = io::buffer();
+    let mut ends: [u32; 8] = [0; 8];
+    let mut rows: [u32; 8] = [0; 8];
+    let answer = reader::read_strict(file, &mut text, &mut ends, &mut rows);
+    print_case(
+        name,
+        b"strict",
+        answer,
+        Check::start(b',', 0).feed(file).ask(),
+    );
 }
 
 fn lenient(name: &[u8], file: &[u8], dialect: &[u8], leniencies: u8) {
-    let mut text_space: [u8; 4096] = [0; 4096];
-    let mut ends_space: [u32; 8] = [0; 8];
-    let mut rows_space: [u32; 8] = [0; 8];
-    let answer = reader::read(
-        file,
-        b',',
-        leniencies,
-        &mut text_space,
-        &mut ends_space,
-        &mut rows_space,
+    let mut text: [u8; 16] = [0; 16];
+    let mut ends: [u32; 8] = [0; 8];
+    let mut rows: [u32; 8] = [0; 8];
+    let answer = reader::read(file, b',', leniencies, &mut text, &mut ends, &mut rows);
+    print_case(
+        name,
+        dialect,
+        answer,
+        Check::start(b',', leniencies).feed(file).ask(),
     );
+}
+
+fn print_case(name: &[u8], dialect: &[u8], answer: Answer, check: Answer) {
     io::write_all(1, name);
     io::write_all(1, b" | ");
     io::write_all(1, dialect);
     io::write_all(1, b" | ");
     print_answer(answer);
     io::write_all(1, b" | ");
-    print_answer(Check::start(b',', leniencies).feed(file).ask());
+    print_answer(check);
     io::write_all(1, b"\n");
 }
 
@@ -152,7 +163,7 @@ fn refused(n: u64) {
     io::write_all(1, b"\n");
 }
 
-// A file with each CRLF shown as in the paper.
+// A file in which LF comes only behind CR, each CRLF shown as in the paper.
 fn print_file(file: &[u8]) {
     let mut i = 0;
     while i < file.len() {

@@ -21,7 +21,7 @@ use Rattle.format.proofs.Tally.{length-law, tally-ended, tally-le, one-
 pub record ShortestEnded (t : Table) (f : Bytes) : Type 0 where
   pub reads : Reading strict f t 0
   pub ended : EndsInBreak f
-  pub others : (g : Bytes) → Reading strict g t 0 → EndsInBreak g → (g ≡ f → ⊥) → length f < length g
+  pub others : (g : Bytes) {r : ℕ} → Reading strict g t r → EndsInBreak g → (g ≡ f → ⊥) → length f < length g
 
 -- a strict file of a table: n of its fields are quoted without need, and m of its last line breaks are missing
 abbrev pub StrictTally : Bytes → Table → ℕ → ℕ → Type 0

@@ -13,7 +13,7 @@ use Rattle.format.specs.Table.{Bytes, Content}
 use Rattle.format.specs.Dialect.{Dialect, strict}
 use Rattle.format.specs.Grammar.{padded}
 use Rattle.format.specs.Memory.{parts}
-use Rattle.format.specs.Written.{isMark, holdsMark, needsQuotes, doubled, quotedForm, recordBy, tableBy}
+use Rattle.format.specs.Written.{isMark, holdsMark, needsQuotes, doubled, quotedForm, plainForm, recordBy, tableBy}
 
 module _ (form : Content → Bytes) (d : Dialect) (fields : List Content) where
   record-more : (c : Content) (cs : List Content) → 1 ≤ length cs → recordBy form d (c ∷ cs) ≡ form c ++ (d .delimiterByte ∷ recordBy form d cs)
@@ -76,6 +76,10 @@ doubled-other b c n = rw (ne-eqb b 0x22 n)
 pub quoted-content : (c : Content) → quotedForm c ≡ 0x22 ∷ (doubled c ++ (0x22 ∷ []))
 unfolding quotedForm
 quoted-content c = refl
+
+pub plain-content : (d : Dialect) (c : Content) → plainForm d c ≡ cond (needsQuotes d c) (quotedForm c) c
+unfolding plainForm
+plain-content d c = refl
 
 pub doubled-none : doubled [] ≡ []
 unfolding doubled

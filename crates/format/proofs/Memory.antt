@@ -190,6 +190,10 @@ pub part-length :
 unfolding partOf
 part-length text ends k h = length-slice (startOf ends k) (getD ends k 0) text h
 
+pub table-parts : (text : Bytes) (ends rows : List ℕ) → tableOf text ends rows ≡ parts 0 (parts 0 text ends) rows
+unfolding tableOf
+table-parts text ends rows = refl
+
 pub table-length : (text : Bytes) (ends rows : List ℕ) → length (tableOf text ends rows) ≡ length rows
 unfolding tableOf
 table-length text ends rows = length-parts 0 (parts 0 text ends) rows

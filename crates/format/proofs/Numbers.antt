@@ -18,7 +18,7 @@ one-by f g back x y e = sym (back x) ∙ ap g e ∙ back y
 found : List ℕ → Found
 found l =
     let n = getD l 0 0 in
-    let k : FieldNumber = record { 0 = getD l 1 0 } in
+    let k : FieldNumber = record { 0 = getD l 3 0 } in
     cond (eqb n 0) (At k) (cond (eqb n 14) Unfit (cond (eqb n 16) (Twice k) Missing))
 
 pub one-search-numbers : (x y : Found) → searchNumbers x ≡ searchNumbers y → x ≡ y
@@ -58,7 +58,7 @@ one-write-numbers = one-by writerNumbers written back
     back NoRoom = refl
 
 part : List ℕ → Part
-part l = cond (eqb (getD l 0 0) 0) Absent (Lies (getD l 1 0) (getD l 2 0))
+part l = cond (eqb (getD l 0 0) 0) Absent (Lies (record { 0 = getD l 1 0 }) (getD l 2 0))
 
 pub one-part-numbers : (x y : Part) → partNumbers x ≡ partNumbers y → x ≡ y
 unfolding part

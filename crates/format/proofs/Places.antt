@@ -1,5 +1,5 @@
 -- How a place moves: over one byte, and over a run of bytes.
-use Prim.Native.Nat.{ℕ, zero, suc, _+_, _-_}
+use Prim.Native.Nat.{ℕ, zero, suc, _+_, _-_, _≤_}
 use native.Mathlib.Nat.{add-assoc, add-zero, add-suc}
 use native.Mathlib.Omega.{arith}
 use mathlib.Core.Path.{_≡_, refl, ap}
@@ -15,6 +15,14 @@ use Rattle.format.specs.Place.{place, lineFeeds, sinceLf, behind, placeO
 -- the place behind the byte b that stands at p
 unfoldable pub after : ℕ → Place → Place
 after b p = cond (eqb b 0x0A) (place (p .line .0 + 1) 1 (p .byte .0 + 1)) (place (p .line .0) (p .column .0 + 1) (p .byte .0 + 1))
+
+pub after-lf : (b : ℕ) (p : Place) → eqb b 0x0A ≡ true → after b p ≡ place (p .line .0 + 1) 1 (p .byte .0 + 1)
+unfolding after
+after-lf b p e = rw e
+
+pub after-other : (b : ℕ) (p : Place) → eqb b 0x0A ≡ false → after b p ≡ place (p .line .0) (p .column .0 + 1) (p .byte .0 + 1)
+unfolding after
+after-other b p e = rw e
 
 -- the place behind the run r that begins at p
 unfoldable pub past : Bytes → Place → Place
@@ -83,3 +91,33 @@ place-run s r g = rw (place-behind s (r ++ g), ← append-assoc s r g, place-beh
 
 pub place-step : (s : Bytes) (b : ℕ) (g : Bytes) → placeOf (s ++ (b ∷ g)) g ≡ after b (placeOf (s ++ (b ∷ g)) (b ∷ g))
 place-step s b g = rw (← past-byte) (place-run s (b ∷ []) g)
+
+feeds-within : (s : Bytes) → lineFeeds s ≤ length s
+unfolding lineFeeds
+feeds-within [] = omega arith
+feeds-within (b ∷ s) = go (eqb b 0x0A) (feeds-within s)
+  where
+    go : (x : Bool) → lineFeeds s ≤ length s → cond x 1 0 + lineFeeds s ≤ suc (length s)
+    go true h = omega arith
+    go false h = omega arith
+
+since-within : (s : Bytes) → length (sinceLf s) ≤ length s
+unfolding sinceLf
+since-within [] = omega arith
+since-within (b ∷ s) = go (eqb (lineFeeds (b ∷ s)) 0) (since-within s)
+  where
+    go : (x : Bool) → length (sinceLf s) ≤ length s → length (cond x (b ∷ s) (sinceLf s)) ≤ suc (length s)
+    go true h = omega arith
+    go false h = omega arith
+
+-- the numbers of a place are within the bytes before it
+pub record Within (n : ℕ) (p : Place) : Type 0 where
+  pub line : p .line .0 ≤ 1 + n
+  pub column : p .column .0 ≤ 1 + n
+  pub byte : p .byte .0 ≤ n
+
+pub place-within : (s g : Bytes) → Within (length s) (placeOf (s ++ g) g)
+unfolding behind
+place-within s g =
+    rw (place-behind s g)
+    (record { line = omega (arith, feeds-within s); column = omega (arith, since-within s); byte = omega arith })

@@ -22,14 +22,14 @@ writerNumbers (Uneven r) = 10 ∷ 0 ∷ 0 ∷ r ∷ 0 ∷ []
 writerNumbers LongFile = 2 ∷ 0 ∷ 0 ∷ 0 ∷ 0 ∷ []
 writerNumbers NoRoom = 15 ∷ 0 ∷ 0 ∷ 0 ∷ 0 ∷ []
 
--- refusal, column
+-- refusal, and the place 0, 0 and a column of the table: the one found, or for 16 the later of the two
 abbrev pub searchNumbers : Found → List ℕ
-searchNumbers (At k) = 0 ∷ k .0 ∷ []
-searchNumbers Unfit = 14 ∷ 0 ∷ []
-searchNumbers (Twice k) = 16 ∷ k .0 ∷ []
-searchNumbers Missing = 17 ∷ 0 ∷ []
+searchNumbers (At k) = 0 ∷ 0 ∷ 0 ∷ k .0 ∷ []
+searchNumbers Unfit = 14 ∷ 0 ∷ 0 ∷ 0 ∷ []
+searchNumbers (Twice k) = 16 ∷ 0 ∷ 0 ∷ k .0 ∷ []
+searchNumbers Missing = 17 ∷ 0 ∷ 0 ∷ 0 ∷ []
 
 -- found (1, or 0 for the stand-in), start, length
 abbrev pub partNumbers : Part → List ℕ
-partNumbers (Lies start n) = 1 ∷ start ∷ n ∷ []
+partNumbers (Lies start n) = 1 ∷ start .0 ∷ n ∷ []
 partNumbers Absent = 0 ∷ 0 ∷ 0 ∷ []

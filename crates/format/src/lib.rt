@@ -1,6 +1,11 @@
-// The shared types, all by value: places, and the answers of the calls.
+// The limits and the shared types, all by value: places, and the answers of the calls.
 //
 // specs/Answer.antt gives the paper's number and values for each case of an answer.
+
+// The house limits, in bytes: a field's content, and a file.
+pub const CONTENT_LIMIT: u32 = 4096;
+
+pub const FILE_LIMIT: u32 = 16777216;
 
 // Four kinds of number that cannot be mixed. Lines and columns count from 1, bytes and fields
 // from 0. A table's column is a field number and never a Column.
@@ -59,6 +64,6 @@ pub enum Found {
 
 // Where a field lies in text: its start and its length; or there is no such field.
 pub enum Part {
-    Lies(u32, u32),
+    Lies(ByteOffset, u32),
     Absent,
 }

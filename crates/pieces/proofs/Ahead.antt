@@ -14,8 +14,8 @@ use Rattle.format.specs.Table.{Bytes, Content}
 use Rattle.format.specs.Dialect.{lf, blanks, ragged, bytes, bitOf, names, Dialect, dialect, isWide, Class, text, blank, delimiter, quote, CR, LF, forbidden, classOf}
 use Rattle.format.specs.House.{contentLimit, fileLimit}
 use Rattle.format.specs.Count.{wides, some}
-use Rattle.format.specs.Place.{place, lineFeeds, sinceLf, behind, placeOf}
-use Rattle.format.proofs.Places.{after, place-step, place-behind}
+use Rattle.format.specs.Place.{place, placeOf}
+use Rattle.format.proofs.Places.{after, after-lf, after-other, place-step, Within as PlaceWithin, place-within}
 use Rattle.steps.specs.Steps.{Form, start, lead, bare, quoted, shut, tail, cr, Move, to, end, wrong, row, next, inQuotes, behindCr, isBlank, nothing, put, hold, record-end, refuse, go, carry, stepOf}
 use Rattle.steps.specs.Model.{Cell, cell, Trace, refused, last, field, line, change, putting, dropping, keptIn, holding, ending, mark, seen, doing, run, agrees}
 use Rattle.steps.specs.Numbers.{formNumber, coded}
@@ -154,44 +154,22 @@ unfolding agrees
 agrees-is x sum zero j = or-true (names sum ragged)
 agrees-is x sum (suc z) j = rw (eqb·suc-zero z)
 
--- places
-feeds-le : (s : Bytes) → lineFeeds s ≤ length s
-unfolding lineFeeds
-feeds-le [] = omega arith
-feeds-le (b ∷ s) = go (eqb b 0x0A) (feeds-le s)
-  where
-    go : (y : Bool) → lineFeeds s ≤ length s → cond y 1 0 + lineFeeds s ≤ suc (length s)
-    go true h = omega arith
-    go false h = omega arith
-
-since-le : (s : Bytes) → length (sinceLf s) ≤ length s
-unfolding sinceLf
-since-le [] = omega arith
-since-le (b ∷ s) = go (eqb (lineFeeds (b ∷ s)) 0) (since-le s)
-  where
-    go : (y : Bool) → length (sinceLf s) ≤ length s → length (cond y (b ∷ s) (sinceLf s)) ≤ suc (length s)
-    go true h = omega arith
-    go false h = omega arith
-
+-- a place moves as the file's does, as long as no counter stops
 moved-is : (s : Bytes) (b : ℕ) (f : Bytes) → length s + 1 ≤ fileLimit → moved b (placeOf (s ++ (b ∷ f)) (b ∷ f)) ≡ placeOf (s ++ (b ∷ f)) f
-unfolding moved after behind
-moved-is s b f h = rw (place-step s b f, place-behind s (b ∷ f)) (go (eqb b 0x0A))
+unfolding moved
+moved-is s b f h = rw (place-step s b f) (go (placeOf (s ++ (b ∷ f)) (b ∷ f)) (place-within s (b ∷ f)) (eqb b 0x0A) refl)
   where
-    line : plus (1 + lineFeeds s) 1 ≡ 1 + lineFeeds s + 1
-    line = omega (arith, feeds-le s)
-
-    column : plus (1 + length (sinceLf s)) 1 ≡ 1 + length (sinceLf s) + 1
-    column = omega (arith, since-le s)
-
-    byte : plus (length s) 1 ≡ length s + 1
-    byte = omega arith
-
     go :
-        (y : Bool)
-        → cond y (place (plus (1 + lineFeeds s) 1) 1 (plus (length s) 1)) (place (1 + lineFeeds s) (plus (1 + length (sinceLf s)) 1) (plus (length s) 1))
-        ≡ cond y (place (1 + lineFeeds s + 1) 1 (length s + 1)) (place (1 + lineFeeds s) (1 + length (sinceLf s) + 1) (length s + 1))
-    go true = rw (line, byte)
-    go false = rw (column, byte)
+        (p : Place) → PlaceWithin (length s) p → (y : Bool) → eqb b 0x0A ≡ y
+        → cond (eqb b 0x0A) (place (plus (p .line .0) 1) 1 (plus (p .byte .0) 1)) (place (p .line .0) (plus (p .column .0) 1) (plus (p .byte .0) 1)) ≡ after b p
+    go p w true e =
+        let line : plus (p .line .0) 1 ≡ p .line .0 + 1 = omega (arith, w .line) in
+        let byte : plus (p .byte .0) 1 ≡ p .byte .0 + 1 = omega (arith, w .byte) in
+        rw (e, after-lf b p e, line, byte)
+    go p w false e =
+        let column : plus (p .column .0) 1 ≡ p .column .0 + 1 = omega (arith, w .column) in
+        let byte : plus (p .byte .0) 1 ≡ p .byte .0 + 1 = omega (arith, w .byte) in
+        rw (e, after-other b p e, column, byte)
 
 -- n bytes have come: the counters are within them, so that they do not stop
 pub record Within (n m h j : ℕ) (s : Sums) : Type 0 where

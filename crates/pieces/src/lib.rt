@@ -63,11 +63,6 @@ pub struct Check {
     pub counts: Counts,
 }
 
-// The house limits: a field's content, and a file.
-const CONTENT_LIMIT: u32 = 4096;
-
-const FILE_LIMIT: u32 = 16777216;
-
 // One past the file limit, where counters stop.
 const COUNTER_LIMIT: u32 = 16777217;
 
@@ -270,7 +265,7 @@ impl Check {
         if !is_valid(self.delimiter, self.leniencies) {
             return Answer::Declined(1, nowhere());
         }
-        if FILE_LIMIT < self.here.byte.0 {
+        if format::FILE_LIMIT < self.here.byte.0 {
             return Answer::Declined(2, nowhere());
         }
         if self.refusal != 0 {
@@ -346,7 +341,7 @@ impl Check {
     fn field_ended(self, v: Used, next: Place) -> Check
         ensures { λ r. ⌜ r ≡ fieldEnded v next self ⌝ }
     {
-        if CONTENT_LIMIT < self.field.content {
+        if format::CONTENT_LIMIT < self.field.content {
             let start = self.field.start;
             return self.stopped(9, start);
         }
@@ -360,7 +355,7 @@ impl Check {
     fn record_ended(self, v: Used, at: Place, next: Place, lone: bool) -> Check
         ensures { λ r. ⌜ r ≡ recordEnded v at next lone self ⌝ }
     {
-        if CONTENT_LIMIT < self.field.content {
+        if format::CONTENT_LIMIT < self.field.content {
             let start = self.field.start;
             return self.stopped(9, start);
         }

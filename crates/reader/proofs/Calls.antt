@@ -3,6 +3,7 @@ use Prim.Native.Nat.{ℕ}
 use native.Mathlib.Omega.{arith}
 use mathlib.Core.Path.{_≡_, refl, sym, ap, subst, _∙_}
 use mathlib.Core.List.{List, flatten}
+use mathlib.Core.Logic.{_⊎_, inl, inr}
 use lib.ListN.{length, take}
 use lib.Seq.{take-append-seam}
 use Rattle.format.specs.declared.Totals.{Totals}
@@ -14,7 +15,8 @@ use Rattle.format.specs.Reading.{Accepted}
 use Rattle.format.proofs.Held.{reading-held}
 use Rattle.format.proofs.Memory.{length-lengths, table-well-formed, table-back}
 use Rattle.steps.proofs.Theorems.{one-accepted, one-refused, never-both, office-auditor}
-use Rattle.pieces.specs.Answers.{totalsOf}
+use Rattle.pieces.specs.Answers.{totalsOf, Answers, accepted, refused}
+use Rattle.pieces.proofs.Stands.{one-answer}
 use Rattle.format.specs.Filling.{over}
 use Rattle.reader.specs.Read.{Room, NoRoom, no-text, no-ends, no-rows, Outcome}
 
@@ -61,6 +63,15 @@ module _ {b sum : ℕ} {f text : Bytes} {ends rows : List ℕ} where
         ap (λ (t : Table). over (endsOf t) ends) (e .0),
         ap (λ (t : Table). over (rowsOf t) rows) (e .0),
       )
+
+-- The check's answer is the reader's, 11 to 13 apart: those come where the check accepts.
+pub check-is-read :
+    {b sum : ℕ} {f text : Bytes} {ends rows : List ℕ} {a a′ : Answer} {x : Bytes} {y z : List ℕ}
+    → Answers b sum f a → Outcome b sum f text ends rows a′ x y z
+    → (a ≡ a′) ⊎ ((t : Table) × (r n : ℕ) × (a ≡ Taken (totalsOf t r)) × NoRoom t text ends rows n × (a′ ≡ Declined n (place 0 0 0)))
+check-is-read h (Outcome.refused i) = inl (one-answer h (refused i))
+check-is-read h (Outcome.no-room {t} {r} {n} i k) = inr (t, r, n, one-answer h (accepted i), k, refl)
+check-is-read h (Outcome.filled i k) = inl (one-answer h (accepted i))
 
 -- `read` with comma that reports 0 means that `read_strict` answers the same, with the same buffers
 pub office-auditor-read :

@@ -1,4 +1,3 @@
-pub mod Acts
 pub mod Calls
 pub mod Flow
 pub mod Outcomes

@@ -1,7 +1,6 @@
 -- Outcomes of a read: from the check's answer to them, and the laws that two calls obey.
 use Prim.Native.Nat.{ℕ, _≤_, _<_}
-use native.Mathlib.Omega.{arith}
-use mathlib.Core.Path.{_≡_, refl, sym, ap, subst, _∙_}
+use mathlib.Core.Path.{_≡_, sym, subst}
 use mathlib.Core.List.{List, flatten}
 use lib.ListN.{length}
 use Rattle.format.specs.declared.Place.{Place}
@@ -13,8 +12,7 @@ use Rattle.format.specs.House.{fileLimit}
 use Rattle.format.specs.Place.{place}
 use Rattle.format.specs.Reading.{Accepted}
 use Rattle.format.specs.Memory.{textOf, endsOf, rowsOf}
-use Rattle.steps.specs.Model.{Judged, declined, taken, any, read, accepts, refuses, verdict}
-use Rattle.steps.proofs.Verdicts.{reading-verdict}
+use Rattle.steps.proofs.Verdicts.{reading-taken}
 use Rattle.format.proofs.Memory.{length-lengths}
 use Rattle.pieces.specs.Answers.{Answers, accepted, refused}
 use Rattle.reader.specs.Fill.{textIn, endsIn, rowsIn}
@@ -28,19 +26,11 @@ pub record Walked (b sum : ℕ) (f : Bytes) (t : Table) : Type 0 where
   pub ends-is : endsIn (dialect b sum) f ≡ endsOf t
   pub rows-is : rowsIn (dialect b sum) f ≡ rowsOf t
 
-apart : {n r : ℕ} {p : Place} {t : Table} → refuses n p ≡ accepts t r → ⊥
-apart e = let z : _≡_ {A = ℕ} 0 1 = cc in omega arith
-
 pub walked : {b sum : ℕ} {f : Bytes} {t : Table} {r : ℕ} → Accepted b sum f t r → Walked b sum f t
-unfolding verdict
-walked {b} {sum} {f} {t} {r} a = go (read (dialect b sum) any f) refl (reading-verdict (dialect b sum) (a .reading))
-  where
-    go : (j : Judged) → read (dialect b sum) any f ≡ j → verdict (dialect b sum) f j ≡ accepts t r → Walked b sum f t
-    go (declined n x p) e q = absurd (apart q)
-    go (taken u m l) e q =
-        let same : u ≡ t = cc in
-        let (x, y, z) = filled (dialect b sum) f u m l e in
-        record { text-is = x ∙ ap textOf same; ends-is = y ∙ ap endsOf same; rows-is = z ∙ ap rowsOf same }
+walked {b} {sum} {f} {t} a =
+    let (m, l, e) = reading-taken (dialect b sum) (a .reading) in
+    let (x, y, z) = filled (dialect b sum) f t m l e in
+    record { text-is = x; ends-is = y; rows-is = z }
 
 -- the second walk has room
 pub has-room :

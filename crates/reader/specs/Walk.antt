@@ -5,22 +5,10 @@ use lib.ListN.{length, drop}
 use Rattle.format.specs.Table.{Bytes}
 use Rattle.format.specs.Dialect.{Dialect}
 use Rattle.format.specs.House.{fileLimit}
-use Rattle.steps.specs.Steps.{start, nothing, put, hold, drop as dropped, field-end, record-end, Act, refuse, go}
 use Rattle.steps.specs.Numbers.{formOf}
-use Rattle.steps.specs.declared.Stepped.{Stepped, the-variants.Refuse, the-variants.Quiet, the-variants.Put, the-variants.Hold, the-variants.Drop, the-variants.EndField, the-variants.EndRecord}
 use Rattle.reader.specs.declared.Head.{Head}
 use Rattle.reader.specs.Fill.{textLeft, endsLeft, rowsLeft}
 use Rattle.format.specs.Filling.{Onward}
-
--- the act of an answer of the code
-abbrev pub actOf : Stepped → Act
-actOf (Refuse n) = refuse n
-actOf (Quiet k) = go (formOf k) nothing
-actOf (Put k) = go (formOf k) put
-actOf (Hold k) = go (formOf k) hold
-actOf (Drop k) = go (formOf k) dropped
-actOf EndField = go start field-end
-actOf EndRecord = go start record-end
 
 -- what is to be written from a place of the file on
 abbrev pub textAhead : Dialect → Bytes → Head → Bytes

@@ -16,7 +16,7 @@ use Rattle.siprovault.specs.declared.SvAnswer.{SvAnswer}
 use Rattle.siprovault.specs.declared.SvWritten.{SvWritten}
 use Rattle.siprovault.specs.declared.SvColumn.{SvColumn}
 use Rattle.siprovault.specs.declared.SvPart.{SvPart}
-use Rattle.siprovault.specs.Face.{answerNumbers, writtenNumbers, columnNumbers, placeNumbers, answerFrom, writtenFrom, columnFrom, partFrom, Reads, Asks}
+use Rattle.siprovault.specs.Face.{answerNumbers, writtenNumbers, columnNumbers, foundNumbers, answerFrom, writtenFrom, columnFrom, partFrom, Reads, Asks}
 
 pub one-read :
     {b sum : ℕ} {f text : Bytes} {ends rows : List ℕ} {r s : SvAnswer} {x x′ : Bytes} {y y′ z z′ : List ℕ}
@@ -41,5 +41,5 @@ module _ {text : Bytes} {ends rows : List ℕ} where
   one-find p q = ap columnFrom (one-found p q)
 
   pub one-show :
-      {m n : ℕ} {r s : SvPart} → Located text ends rows m n (placeNumbers r) → Located text ends rows m n (placeNumbers s) → r ≡ s
+      {m n : ℕ} {r s : SvPart} → Located text ends rows m n (foundNumbers r) → Located text ends rows m n (foundNumbers s) → r ≡ s
   one-show p q = ap partFrom (one-place p q)

@@ -15,7 +15,7 @@ use Rattle.siprovault.specs.declared.SvAnswer.{SvAnswer}
 use Rattle.siprovault.specs.declared.SvWritten.{SvWritten}
 use Rattle.siprovault.specs.declared.SvColumn.{SvColumn}
 use Rattle.siprovault.specs.declared.SvPart.{SvPart}
-use Rattle.siprovault.specs.Face.{answerNumbers, writtenNumbers, columnNumbers, placeNumbers, answerFrom, writtenFrom, columnFrom, partFrom}
+use Rattle.siprovault.specs.Face.{answerNumbers, writtenNumbers, columnNumbers, foundNumbers, answerFrom, writtenFrom, columnFrom, partFrom}
 
 pub answer-numbers : {r : SvAnswer} (a : Answer) → r ≡ answerFrom (readerNumbers a) → answerNumbers r ≡ readerNumbers a
 answer-numbers (Taken t) e = ap answerNumbers e
@@ -37,9 +37,9 @@ column-numbers Unfit e = ap columnNumbers e
 column-numbers (Twice k) e = ap columnNumbers e
 column-numbers Missing e = ap columnNumbers e
 
-pub place-numbers : {r : SvPart} (a : Part) → r ≡ partFrom (partNumbers a) → placeNumbers r ≡ partNumbers a
-place-numbers (Lies start n) e = ap placeNumbers e
-place-numbers Absent e = ap placeNumbers e
+pub found-numbers : {r : SvPart} (a : Part) → r ≡ partFrom (partNumbers a) → foundNumbers r ≡ partNumbers a
+found-numbers (Lies start n) e = ap foundNumbers e
+found-numbers Absent e = ap foundNumbers e
 
 -- so a promise that is met by an answer is met by its struct
 module _ {text : Bytes} {ends rows : List ℕ} where
@@ -55,5 +55,5 @@ module _ {text : Bytes} {ends rows : List ℕ} where
 
   pub shows :
       {record′ column : ℕ} {r : SvPart} (a : Part)
-      → Located text ends rows record′ column (partNumbers a) → r ≡ partFrom (partNumbers a) → Located text ends rows record′ column (placeNumbers r)
-  shows {record′} {column} a o e = subst (Located text ends rows record′ column) (sym (place-numbers a e)) o
+      → Located text ends rows record′ column (partNumbers a) → r ≡ partFrom (partNumbers a) → Located text ends rows record′ column (foundNumbers r)
+  shows {record′} {column} a o e = subst (Located text ends rows record′ column) (sym (found-numbers a e)) o

@@ -1,4 +1,4 @@
--- The numbers of the C structs, in the order of their fields, which is the paper's; and the promises of the calls whose answer is an enum in Rattle.
+-- The numbers of the C structs, in the paper's order, a search's with the 0, 0 that its struct leaves out; and the promises of the calls whose answer is an enum in Rattle.
 use Prim.Native.Nat.{ℕ}
 use mathlib.Core.Path.{_≡_}
 use mathlib.Core.List.{List, [], _∷_}
@@ -21,10 +21,10 @@ abbrev pub writtenNumbers : SvWritten → List ℕ
 writtenNumbers r = r .refusal ∷ r .line ∷ r .column ∷ r .byte ∷ r .length ∷ []
 
 abbrev pub columnNumbers : SvColumn → List ℕ
-columnNumbers r = r .refusal ∷ r .column ∷ []
+columnNumbers r = r .refusal ∷ 0 ∷ 0 ∷ r .column ∷ []
 
-abbrev pub placeNumbers : SvPart → List ℕ
-placeNumbers r = r .found ∷ r .start ∷ r .length ∷ []
+abbrev pub foundNumbers : SvPart → List ℕ
+foundNumbers r = r .found ∷ r .start ∷ r .length ∷ []
 
 -- and back: the struct that has the numbers of a list
 abbrev pub answerFrom : List ℕ → SvAnswer
@@ -44,7 +44,7 @@ abbrev pub writtenFrom : List ℕ → SvWritten
 writtenFrom l = record { refusal = getD l 0 0; line = getD l 1 0; column = getD l 2 0; byte = getD l 3 0; length = getD l 4 0 }
 
 abbrev pub columnFrom : List ℕ → SvColumn
-columnFrom l = record { refusal = getD l 0 0; column = getD l 1 0 }
+columnFrom l = record { refusal = getD l 0 0; column = getD l 3 0 }
 
 abbrev pub partFrom : List ℕ → SvPart
 partFrom l = record { found = getD l 0 0; start = getD l 1 0; length = getD l 2 0 }

@@ -6,7 +6,7 @@ ghost use Rattle.pieces.specs.Answers.{Started, Fed};
 ghost use Rattle.tables.specs.Search.{Searched};
 ghost use Rattle.tables.specs.Shown.{Located};
 ghost use Rattle.writer.specs.Write.{Outcome};
-ghost use Rattle.siprovault.specs.Face.{answerNumbers, writtenNumbers, columnNumbers, placeNumbers, answerFrom, writtenFrom, columnFrom, partFrom, Reads, Asks};
+ghost use Rattle.siprovault.specs.Face.{answerNumbers, writtenNumbers, columnNumbers, foundNumbers, answerFrom, writtenFrom, columnFrom, partFrom, Reads, Asks};
 use format::Answer;
 use format::Found;
 use format::Part;
@@ -133,12 +133,12 @@ pub extern "C" fn sv_show(
     record: usize,
     column: usize,
 ) -> SvPart
-    ensures { λ r. ⌜ Located (now (text .entry)) (now (ends .entry)) (now (rows .entry)) «record» column (placeNumbers r) ⌝ }
+    ensures { λ r. ⌜ Located (now (text .entry)) (now (ends .entry)) (now (rows .entry)) «record» column (foundNumbers r) ⌝ }
 {
     part(tables::locate(text, ends, rows, record, column))
 }
 
-// The numbers of each answer.
+// The eight numbers of an answer to a file.
 fn answered(answer: Answer) -> SvAnswer
     ensures { λ r. ⌜ r ≡ answerFrom (readerNumbers answer) ⌝ }
 {
@@ -166,22 +166,24 @@ fn answered(answer: Answer) -> SvAnswer
     }
 }
 
+// The five numbers of an answer to a write.
 fn written(answer: Written) -> SvWritten
     ensures { λ r. ⌜ r ≡ writtenFrom (writerNumbers answer) ⌝ }
 {
     match answer {
-        Written::Whole(n) => numbers(0, 0, n),
-        Written::UnknownMode => numbers(1, 0, 0),
-        Written::Malformed => numbers(14, 0, 0),
-        Written::Forbidden(b) => numbers(3, b.0, 0),
-        Written::LongContent(k) => numbers(9, k.0, 0),
-        Written::Uneven(r) => numbers(10, r, 0),
-        Written::LongFile => numbers(2, 0, 0),
-        Written::NoRoom => numbers(15, 0, 0),
+        Written::Whole(n) => outcome(0, 0, n),
+        Written::UnknownMode => outcome(1, 0, 0),
+        Written::Malformed => outcome(14, 0, 0),
+        Written::Forbidden(b) => outcome(3, b.0, 0),
+        Written::LongContent(k) => outcome(9, k.0, 0),
+        Written::Uneven(r) => outcome(10, r, 0),
+        Written::LongFile => outcome(2, 0, 0),
+        Written::NoRoom => outcome(15, 0, 0),
     }
 }
 
-fn numbers(refusal: u32, byte: u32, length: u32) -> SvWritten
+// Of these five, line and column are always 0.
+fn outcome(refusal: u32, byte: u32, length: u32) -> SvWritten
     ensures { λ r. ⌜ r ≡ record { refusal = refusal; line = 0; column = 0; byte = byte; length = length } ⌝ }
 {
     SvWritten {
@@ -193,6 +195,7 @@ fn numbers(refusal: u32, byte: u32, length: u32) -> SvWritten
     }
 }
 
+// The two numbers of an answer to a search.
 fn found(answer: Found) -> SvColumn
     ensures { λ r. ⌜ r ≡ columnFrom (searchNumbers answer) ⌝ }
 {
@@ -216,13 +219,14 @@ fn found(answer: Found) -> SvColumn
     }
 }
 
+// The three numbers of a part.
 fn part(answer: Part) -> SvPart
     ensures { λ r. ⌜ r ≡ partFrom (partNumbers answer) ⌝ }
 {
     match answer {
         Part::Lies(start, length) => SvPart {
             found: 1,
-            start,
+            start: start.0,
             length,
         },
         Part::Absent => SvPart {

@@ -1,3 +1,4 @@
+pub mod Acts
 pub mod Cases
 pub mod Complete
 pub mod Faults

@@ -44,6 +44,15 @@ module _ (d : Dialect) where
       go (declined n i j) s e = let z : _≡_ {A = ℕ} 0 1 = cc in absurd (omega arith)
       go (taken u m l) s e = same-reading e (reads-reading s)
 
+  -- what is read is what the model takes, with that table
+  pub reading-taken : {f : Bytes} {t : Table} {r : ℕ} → Reading d f t r → (m : ℕ) × (l : ℕ) × (read d any f ≡ taken t m l)
+  unfolding verdict
+  reading-taken {f} {t} {r} p = go (read d any f) (reading-verdict p)
+    where
+      go : (a : Judged) → verdict d f a ≡ accepts t r → (m : ℕ) × (l : ℕ) × (a ≡ taken t m l)
+      go (declined n i j) e = let z : _≡_ {A = ℕ} 0 1 = cc in absurd (omega arith)
+      go (taken u m l) e = let same : u ≡ t = cc in (m, l, ap (λ (v : Table). taken v m l) same)
+
   pub refusal-read : {n : ℕ} {f found named : Bytes} → Refusal d n f found named → read d any f ≡ declined n found named
   refusal-read x = refusal-complete (refusal-refuses d x)
 

@@ -52,6 +52,16 @@ coded (go k drop) = Drop (formNumber k)
 coded (go k field-end) = EndField
 coded (go k record-end) = EndRecord
 
+-- and the act of an answer of the code
+abbrev pub actOf : Stepped → Act
+actOf (Refuse n) = refuse n
+actOf (Quiet k) = go (formOf k) nothing
+actOf (Put k) = go (formOf k) put
+actOf (Hold k) = go (formOf k) hold
+actOf (Drop k) = go (formOf k) drop
+actOf EndField = go start field-end
+actOf EndRecord = go start record-end
+
 -- all forms and all classes, in the order of their numbers
 abbrev pub forms : List Form
 forms = start ∷ lead ∷ bare ∷ quoted ∷ shut ∷ tail ∷ cr ∷ []

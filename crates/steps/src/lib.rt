@@ -23,6 +23,13 @@ pub enum Stepped {
     EndRecord,
 }
 
+// The numbers of classes that others ask for. Those of the marks run from the delimiter's to the LF's.
+pub const DELIMITER: u8 = 2;
+
+pub const LF: u8 = 5;
+
+pub const FORBIDDEN: u8 = 6;
+
 // The entries: a form's number, 7 for the end of a record, 7 + n for refusal n.
 const STEPS: [[u8; 7]; 7] = [
     [2, 1, 0, 3, 6, 7, 10],

@@ -3,7 +3,7 @@ use Prim.Native.Nat.{ℕ, _≤_, _<_}
 use native.Mathlib.Nat.{zero-add}
 use native.Mathlib.Omega.{arith}
 use mathlib.Core.Path.{_≡_, refl, sym, ap, _∙_}
-use mathlib.Core.List.{List, [], _∷_}
+use mathlib.Core.List.{List, []}
 use lib.ListN.{length, getD}
 use Rattle.format.specs.Table.{Bytes, Content}
 use Rattle.format.specs.Memory.{WellFormed, parts, tableOf}
@@ -11,10 +11,10 @@ use Rattle.format.specs.Answer.{searchNumbers}
 use Rattle.format.specs.declared.Found.{Found}
 use Rattle.format.proofs.Memory.{table-length, field-at, field-part, record-width}
 use Rattle.format.proofs.Numbers.{one-search-numbers}
-use Rattle.tables.specs.Search.{headerOf, Repeats, Named, NoneBelow, InHeader, twice, at, nowhere, Searched, malformed, no-records, in-header, Least}
+use Rattle.tables.specs.Search.{answered, headerOf, Repeats, Named, NoneBelow, InHeader, twice, at, nowhere, Searched, malformed, no-records, in-header, Least}
 
 module _ {text : Bytes} {ends rows : List ℕ} (w : WellFormed text ends rows) where
-  pub lacks-records : {name : Bytes} → length rows ≡ 0 → Searched text ends rows name (17 ∷ 0 ∷ [])
+  pub lacks-records : {name : Bytes} → length rows ≡ 0 → Searched text ends rows name (answered 17 0)
   lacks-records e = no-records w (table-length text ends rows ∙ e)
 
   module _ (some : 0 < length rows) where
@@ -35,7 +35,7 @@ module _ {text : Bytes} {ends rows : List ℕ} (w : WellFormed text ends rows) w
 
     pub repeated :
         {name : Bytes} {j : ℕ}
-        → Least (Repeats (parts 0 text ends)) (getD rows 0 0) j → j < getD rows 0 0 → Searched text ends rows name (16 ∷ j ∷ [])
+        → Least (Repeats (parts 0 text ends)) (getD rows 0 0) j → j < getD rows 0 0 → Searched text ends rows name (answered 16 j)
     repeated {name} {j} least l =
         gives (twice (rw header-width l) (repeats j l (least .here l)) (λ i m r. least .none-before i m (repeats-back i (omega arith) r)))
 
@@ -45,12 +45,12 @@ module _ {text : Bytes} {ends rows : List ℕ} (w : WellFormed text ends rows) w
 
       pub named :
           {name : Bytes} {k : ℕ}
-          → Least (Named (parts 0 text ends) name) (getD rows 0 0) k → k < getD rows 0 0 → Searched text ends rows name (0 ∷ k ∷ [])
+          → Least (Named (parts 0 text ends) name) (getD rows 0 0) k → k < getD rows 0 0 → Searched text ends rows name (answered 0 k)
       named {name} {k} lowest l = gives (at none-repeats (rw header-width l) (header-field k l ∙ lowest .here l))
 
       pub not-named :
           {name : Bytes} {k : ℕ}
-          → Least (Named (parts 0 text ends) name) (getD rows 0 0) k → getD rows 0 0 ≤ k → Searched text ends rows name (17 ∷ 0 ∷ [])
+          → Least (Named (parts 0 text ends) name) (getD rows 0 0) k → getD rows 0 0 ≤ k → Searched text ends rows name (answered 17 0)
       not-named lowest m =
           gives
           (nowhere none-repeats
@@ -72,11 +72,11 @@ one-named h {name} {j} {k} none l m p q =
     omega arith
 
 one-in-header : {h : List Content} {name : Bytes} {m n : List ℕ} → InHeader h name m → InHeader h name n → m ≡ n
-one-in-header (twice l r a) (twice m s b) = ap (λ j. 16 ∷ j ∷ []) (one-place r a s b)
+one-in-header (twice l r a) (twice m s b) = ap (answered 16) (one-place r a s b)
 one-in-header (twice l r a) (at b m e) = absurd (b _ l r)
 one-in-header (twice l r a) (nowhere b e) = absurd (b _ l r)
 one-in-header (at b m e) (twice l r a) = absurd (b _ l r)
-one-in-header {h} (at a l d) (at b m e) = ap (λ k. 0 ∷ k ∷ []) (one-named h a l m d e)
+one-in-header {h} (at a l d) (at b m e) = ap (answered 0) (one-named h a l m d e)
 one-in-header (at a l d) (nowhere b e) = absurd (e _ l d)
 one-in-header (nowhere b e) (twice l r a) = absurd (b _ l r)
 one-in-header (nowhere b e) (at a l d) = absurd (e _ l d)

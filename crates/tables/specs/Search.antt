@@ -1,10 +1,13 @@
--- What the column search promises, in the paper's two numbers: the refusal and the column.
+-- What the column search promises, in the paper's numbers: the refusal, and the place 0, 0 and a column, from 0.
 use Prim.Native.Nat.{ℕ, _<_}
 use mathlib.Core.Path.{_≡_}
 use mathlib.Core.List.{List, [], _∷_}
 use lib.ListN.{length, getD}
 use Rattle.format.specs.Table.{Bytes, Content, Table}
 use Rattle.format.specs.Memory.{WellFormed, tableOf}
+
+abbrev pub answered : ℕ → ℕ → List ℕ
+answered refusal column = refusal ∷ 0 ∷ 0 ∷ column ∷ []
 
 -- the header is the first record
 abbrev pub headerOf : Table → List Content
@@ -23,14 +26,14 @@ NoneBelow P n = (i : ℕ) → i < n → P i → ⊥
 
 -- in the header h: 16 and the lowest column that repeats a name; or, where none does, the column of the name; or 17
 pub data InHeader (h : List Content) (name : Bytes) : List ℕ → Type 0 where
-  twice : {j : ℕ} → j < length h → Repeats h j → NoneBelow (Repeats h) j → InHeader h name (16 ∷ j ∷ [])
-  at : {k : ℕ} → NoneBelow (Repeats h) (length h) → k < length h → Named h name k → InHeader h name (0 ∷ k ∷ [])
-  nowhere : NoneBelow (Repeats h) (length h) → NoneBelow (Named h name) (length h) → InHeader h name (17 ∷ 0 ∷ [])
+  twice : {j : ℕ} → j < length h → Repeats h j → NoneBelow (Repeats h) j → InHeader h name (answered 16 j)
+  at : {k : ℕ} → NoneBelow (Repeats h) (length h) → k < length h → Named h name k → InHeader h name (answered 0 k)
+  nowhere : NoneBelow (Repeats h) (length h) → NoneBelow (Named h name) (length h) → InHeader h name (answered 17 0)
 
 -- 14 for a malformed table, then 17 with no records, then what the header gives
 pub data Searched (text : Bytes) (ends rows : List ℕ) (name : Bytes) : List ℕ → Type 0 where
-  malformed : (WellFormed text ends rows → ⊥) → Searched text ends rows name (14 ∷ 0 ∷ [])
-  no-records : WellFormed text ends rows → length (tableOf text ends rows) ≡ 0 → Searched text ends rows name (17 ∷ 0 ∷ [])
+  malformed : (WellFormed text ends rows → ⊥) → Searched text ends rows name (answered 14 0)
+  no-records : WellFormed text ends rows → length (tableOf text ends rows) ≡ 0 → Searched text ends rows name (answered 17 0)
   in-header : {found : List ℕ}
       → WellFormed text ends rows → 0 < length (tableOf text ends rows) → InHeader (headerOf (tableOf text ends rows)) name found
       → Searched text ends rows name found

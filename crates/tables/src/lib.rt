@@ -1,4 +1,5 @@
 // Tables in memory: text, ends and rows, as the reader writes them.
+use format::ByteOffset;
 use format::FieldNumber;
 use format::Found;
 use format::Part;
@@ -50,7 +51,8 @@ pub fn locate(text: &[u8], ends: &[u32], rows: &[u32], record: usize, column: us
         return Part::Absent;
     }
     let first = start_of(ends, k) as u32;
-    Part::Lies(first, ends[k] - first)
+    let length = ends[k] - first;
+    Part::Lies(ByteOffset(first), length)
 }
 
 // The number of that field in the whole table; or the number of fields, where the table is malformed
@@ -169,7 +171,8 @@ fn start_of(list: &[u32], k: usize) -> usize
     if k == 0 { 0 } else { list[k - 1] as usize }
 }
 
-// Whether each entry is the one before it, or 0, and at least the gap more; and the last is the end.
+// Whether each entry is at least the gap above the one before it, the first above 0, and the last is the
+// end.
 fn runs_to(list: &[u32], gap: usize, end: usize) -> bool
     requires { ⌜ gap ≤ 1 ⌝ }
     ensures { λ r. ⌜ r ≡ runsTo gap end 0 (now (list .entry)) ⌝ }

@@ -26,7 +26,7 @@ use Rattle.format.proofs.Numbers.{one-write-numbers}
 use Rattle.pieces.specs.Answers.{totalsOf}
 use Rattle.reader.specs.Read as reader
 use Rattle.reader.proofs.Calls as reads
-use Rattle.writer.specs.Write.{fileIn, Barred, refused, accepted, FileOutcome, TableOutcome, Outcome}
+use Rattle.writer.specs.Write.{fileIn, Forbidden, refused, accepted, FileOutcome, TableOutcome, Outcome}
 
 one-file :
     {file out x y : Bytes} {a b : List ℕ} → FileOutcome file out a x → FileOutcome file out b y → (a ≡ b) × (x ≡ y)
@@ -42,15 +42,15 @@ one-file (FileOutcome.whole h k) (FileOutcome.whole i j) = (refl, refl)
 
 -- what strict can hold has none of the faults
 module _ {text : Bytes} {t : Table} (same : textOf t ≡ text) where
-  no-barred : Holds strict t → {k : ℕ} → First Barred text k → ⊥
-  no-barred h x = none-first (rw same at (holds-bytes strict h)) x
+  none-forbidden : Holds strict t → {k : ℕ} → First Forbidden text k → ⊥
+  none-forbidden h x = none-first (rw same at (holds-bytes strict h)) x
 
   one-table :
       {file out x y : Bytes} {a b : List ℕ} → TableOutcome text t file out a x → TableOutcome text t file out b y → (a ≡ b) × (x ≡ y)
   one-table (TableOutcome.refusal-3 h) (TableOutcome.refusal-3 i) = (ap (refused 3) (one-first h i), refl)
   one-table (TableOutcome.refusal-3 h) (TableOutcome.refusal-9 n i) = absurd (none-first n h)
   one-table (TableOutcome.refusal-3 h) (TableOutcome.refusal-10 n m i) = absurd (none-first n h)
-  one-table (TableOutcome.refusal-3 h) (TableOutcome.held i o) = absurd (no-barred i h)
+  one-table (TableOutcome.refusal-3 h) (TableOutcome.held i o) = absurd (none-forbidden i h)
   one-table (TableOutcome.refusal-9 n h) (TableOutcome.refusal-3 i) = absurd (none-first n i)
   one-table (TableOutcome.refusal-9 n h) (TableOutcome.refusal-9 m i) = (ap (refused 9) (one-first h i), refl)
   one-table (TableOutcome.refusal-9 n h) (TableOutcome.refusal-10 l m i) = absurd (none-first m h)
@@ -59,7 +59,7 @@ module _ {text : Bytes} {t : Table} (same : textOf t ≡ text) where
   one-table (TableOutcome.refusal-10 n m h) (TableOutcome.refusal-9 l i) = absurd (none-first m i)
   one-table (TableOutcome.refusal-10 n m h) (TableOutcome.refusal-10 k l i) = (ap (refused 10) (one-first h i), refl)
   one-table (TableOutcome.refusal-10 n m h) (TableOutcome.held i o) = absurd (none-first (holds-rows strict refl i) h)
-  one-table (TableOutcome.held h o) (TableOutcome.refusal-3 i) = absurd (no-barred h i)
+  one-table (TableOutcome.held h o) (TableOutcome.refusal-3 i) = absurd (none-forbidden h i)
   one-table (TableOutcome.held h o) (TableOutcome.refusal-9 n i) = absurd (none-first (holds-contents strict h) i)
   one-table (TableOutcome.held h o) (TableOutcome.refusal-10 n m i) = absurd (none-first (holds-rows strict refl h) i)
   one-table (TableOutcome.held h o) (TableOutcome.held i p) = one-file o p

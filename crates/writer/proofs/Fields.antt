@@ -1,7 +1,7 @@
 -- One field in either mode: between quotes, or as it is, in which case there is no quote to double.
 use Prim.Native.Nat.{ℕ, _+_, _*_, _≤_, _<_}
 use native.Mathlib.Omega.{arith}
-use mathlib.Core.Path.{_≡_, refl, sym, _∙_}
+use mathlib.Core.Path.{fun-ext, _≡_, refl, sym, _∙_}
 use mathlib.Core.Bool.{Bool, true, false}
 use mathlib.Core.List.{[], _∷_, _++_}
 use lib.ListN.{length, set, length-append, length-set}
@@ -12,7 +12,7 @@ use Rattle.format.specs.Written.{needsQuotes, doubled, quotedForm, plainForm}
 use Rattle.format.proofs.Filling.{meant, push, pushes}
 use Rattle.format.proofs.Forms.{either-false}
 use Rattle.format.proofs.Length.{unmarked-doubled}
-use Rattle.format.proofs.Lines.{strict-needs, quoted-content, doubled-length}
+use Rattle.format.proofs.Lines.{strict-needs, quoted-content, plain-content, doubled-length}
 use Rattle.writer.specs.Form.{quotes, formIn}
 
 module _ (full : Bool) (c : Content) {q : Bool} (e : q ≡ quotes full c) where
@@ -57,8 +57,8 @@ form-bound full c = go (quotes full c) refl
 
 -- plain is the form of each field that needs it quoted, full that of every field quoted
 pub plain-form : formIn false ≡ plainForm strict
-unfolding formIn quotes plainForm
-plain-form = refl
+unfolding formIn quotes
+plain-form = fun-ext (λ c. sym (plain-content strict c))
 
 pub full-form : formIn true ≡ quotedForm
 unfolding formIn quotes

@@ -19,7 +19,7 @@ use Rattle.format.proofs.Holding.{holds}
 use Rattle.format.proofs.Memory.{table-length, memory-back, memory-fields, fields-length, field-lengths, record-lengths, width-at}
 use Rattle.writer.specs.Form.{formIn}
 use Rattle.writer.specs.Seek.{Sought, Outside}
-use Rattle.writer.specs.Write.{fileIn, Barred, TooLong, Differs, refused, accepted, FileOutcome, TableOutcome, Outcome}
+use Rattle.writer.specs.Write.{fileIn, Forbidden, TooLong, Differs, refused, accepted, FileOutcome, TableOutcome, Outcome}
 use Rattle.writer.proofs.Fields.{plain-form, full-form}
 use Rattle.writer.proofs.Seeking.{sought-same, sought-lengths}
 
@@ -54,7 +54,7 @@ other-width w cs = (there, back)
         go false e = inr (leb-false (length cs) w e)
 
 module _ {text : Bytes} {ends rows : List ℕ} (w : WellFormed text ends rows) where
-  pub by-3 : {mode k : ℕ} {out : Bytes} → mode ≤ 1 → Sought Barred text k → k < length text → Outcome text ends rows mode out (refused 3 k) out
+  pub by-3 : {mode k : ℕ} {out : Bytes} → mode ≤ 1 → Sought Forbidden text k → k < length text → Outcome text ends rows mode out (refused 3 k) out
   by-3 m s h = Outcome.well-formed m w (TableOutcome.refusal-3 (is-first s h))
 
   contents : {k : ℕ} → Sought (Outside 0 contentLimit) (gaps 0 ends) k → Sought TooLong (flatten (tableOf text ends rows)) k
@@ -69,7 +69,7 @@ module _ {text : Bytes} {ends rows : List ℕ} (w : WellFormed text ends rows) w
       (sought-lengths (Outside (widthOf (tableOf text ends rows)) (widthOf (tableOf text ends rows))) (tableOf text ends rows) k
       (rw (width-at w, record-lengths w) s))
 
-  module _ {b : ℕ} (bytes : Sought Barred text b) (b-none : length text ≤ b) where
+  module _ {b : ℕ} (bytes : Sought Forbidden text b) (b-none : length text ≤ b) where
     pub by-9 :
         {mode k : ℕ} {out : Bytes} → mode ≤ 1 → Sought (Outside 0 contentLimit) (gaps 0 ends) k → k < length ends
         → Outcome text ends rows mode out (refused 9 k) out

@@ -17,7 +17,7 @@ use Rattle.format.specs.Written.{tableBy}
 use Rattle.format.specs.Filling.{over, Filling}
 use Rattle.format.proofs.Filling.{begin, move, push, pushes, room-for}
 use Rattle.format.proofs.Lines.{line-ends, line-goes-on, lines-end}
-use Rattle.format.proofs.Memory.{part-at, length-parts, end-within, ordered-more, last-more, last-none, last-above, rising-never-falls}
+use Rattle.format.proofs.Memory.{table-parts, part-at, length-parts, end-within, ordered-more, last-more, last-none, last-above, rising-never-falls}
 use Rattle.writer.specs.Form.{formIn}
 use Rattle.writer.proofs.Fields.{form-bound}
 
@@ -36,8 +36,8 @@ pub sets-out : {text : Bytes} {ends rows : List ℕ} → WellFormed text ends ro
 sets-out w = record { within = omega arith; starts = refl; rising = w .rows-rise; closing = w .last-row }
 
 pub whole : (full : Bool) (text : Bytes) (ends rows : List ℕ) → rest full text ends rows 0 0 ≡ tableBy (formIn full) strict (tableOf text ends rows)
-unfolding rest tableOf
-whole full text ends rows = refl
+unfolding rest
+whole full text ends rows = ap (tableBy (formIn full) strict) (sym (table-parts text ends rows))
 
 module _ {ends rows : List ℕ} {k r from : ℕ} (g : At ends rows k r from) where
   some-row : k < length ends → r < length rows

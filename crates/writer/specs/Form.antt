@@ -1,4 +1,4 @@
--- The form of a field in either mode, as the code makes it: its content with each quote doubled, between quotes or not.
+-- The form of a field in either mode: quoted, or its content as it is.
 use mathlib.Core.Bool.{Bool, cond, _||_}
 use Rattle.format.specs.Table.{Bytes, Content}
 use Rattle.format.specs.Dialect.{strict}

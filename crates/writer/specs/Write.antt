@@ -17,8 +17,8 @@ abbrev pub fileIn : ℕ → Table → Bytes
 fileIn mode t = cond (eqb mode 0) (plain strict t) (full strict t)
 
 -- a byte that strict cannot hold, a content over the limit, and a record with another number of fields than the first
-abbrev pub Barred : ℕ → Type 0
-Barred b = classOf strict b ≡ forbidden
+abbrev pub Forbidden : ℕ → Type 0
+Forbidden b = classOf strict b ≡ forbidden
 
 abbrev pub TooLong : Content → Type 0
 TooLong c = contentLimit < length c
@@ -44,9 +44,9 @@ pub data FileOutcome (file out : Bytes) : List ℕ → Bytes → Type 0 where
 
 -- a table and its text: 3, 9 and 10 with the lowest text index, field and record; else strict can hold it
 pub data TableOutcome (text : Bytes) (t : Table) (file out : Bytes) : List ℕ → Bytes → Type 0 where
-  refusal-3 : {k : ℕ} → First Barred text k → TableOutcome text t file out (refused 3 k) out
-  refusal-9 : {k : ℕ} → None Barred text → First TooLong (flatten t) k → TableOutcome text t file out (refused 9 k) out
-  refusal-10 : {k : ℕ} → None Barred text → None TooLong (flatten t) → First (Differs t) t k → TableOutcome text t file out (refused 10 k) out
+  refusal-3 : {k : ℕ} → First Forbidden text k → TableOutcome text t file out (refused 3 k) out
+  refusal-9 : {k : ℕ} → None Forbidden text → First TooLong (flatten t) k → TableOutcome text t file out (refused 9 k) out
+  refusal-10 : {k : ℕ} → None Forbidden text → None TooLong (flatten t) → First (Differs t) t k → TableOutcome text t file out (refused 10 k) out
   held : {a : List ℕ} {out′ : Bytes} → Holds strict t → FileOutcome file out a out′ → TableOutcome text t file out a out′
 
 -- three slices and a mode: 1, else 14

@@ -3,8 +3,7 @@
 // All is judged first, then the length is added up, and only then is anything written, by a second
 // walk over the fields. specs/Write.antt says what a write promises.
 ghost use mathlib.Core.Path.{_≡_};
-ghost use mathlib.Core.Bool.{true, false};
-ghost use Prim.Native.Nat.{_+_, _<_, _≤_};
+ghost use Prim.Native.Nat.{_+_, _≤_};
 ghost use lib.ListN.{length, getD};
 ghost use lib.Seq.{slice, sets};
 ghost use Rattle.format.specs.Dialect.{strict};
@@ -14,7 +13,7 @@ ghost use Rattle.format.specs.Written.{isMark, doubled, tableBy, Holds};
 ghost use Rattle.format.specs.Filling.{over};
 ghost use Rattle.writer.specs.Form.{quotes, formIn};
 ghost use Rattle.writer.specs.Seek.{Sought, Outside};
-ghost use Rattle.writer.specs.Write.{Barred, Outcome};
+ghost use Rattle.writer.specs.Write.{Forbidden, Outcome};
 use format::ByteOffset;
 use format::FieldNumber;
 use format::Written;
@@ -30,11 +29,11 @@ pub fn write(text: &[u8], ends: &[u32], rows: &[u32], mode: u8, out: &mut [u8]) 
     if !tables::is_well_formed(text, ends, rows) {
         return Written::Malformed;
     }
-    let barred = first_barred(text);
-    if barred < text.len() {
-        return Written::Forbidden(ByteOffset(barred as u32));
+    let forbidden = first_forbidden(text);
+    if forbidden < text.len() {
+        return Written::Forbidden(ByteOffset(forbidden as u32));
     }
-    let long = first_outside(ends, 0, 4096);
+    let long = first_outside(ends, 0, format::CONTENT_LIMIT as usize);
     if long < ends.len() {
         return Written::LongContent(FieldNumber(long as u32));
     }
@@ -52,7 +51,7 @@ fn write_held(text: &[u8], ends: &[u32], rows: &[u32], mode: u8, out: &mut [u8])
 {
     let full = mode == 1;
     let n = size(text, ends, rows, full);
-    if 16777216 < n {
+    if (format::FILE_LIMIT as u64) < n {
         return Written::LongFile;
     }
     if (out.len() as u64) < n {
@@ -63,14 +62,14 @@ fn write_held(text: &[u8], ends: &[u32], rows: &[u32], mode: u8, out: &mut [u8])
 }
 
 // The first byte that strict cannot hold, or the length.
-fn first_barred(text: &[u8]) -> usize
-    ensures { λ r. ⌜ Sought Barred (now (text .entry)) r ⌝ }
+fn first_forbidden(text: &[u8]) -> usize
+    ensures { λ r. ⌜ Sought Forbidden (now (text .entry)) r ⌝ }
 {
     let mut i = 0;
     while i < text.len() {
         let here = i;
         i += 1;
-        if steps::class_of(b',', 0, text[here]) == 6 {
+        if steps::class_of(b',', 0, text[here]) == steps::FORBIDDEN {
             return here;
         }
     }
@@ -189,7 +188,7 @@ fn is_mark(b: u8) -> bool
     ensures { λ r. ⌜ r ≡ isMark strict b ⌝ }
 {
     let class = steps::class_of(b',', 0, b);
-    2 <= class && class <= 5
+    steps::DELIMITER <= class && class <= steps::LF
 }
 
 // Writes the file.
@@ -201,7 +200,8 @@ fn put(text: &[u8], ends: &[u32], rows: &[u32], full: bool, out: &mut [u8])
     let mut r = 0;
     let mut from = 0;
     let mut at = 0;
-    while k < ends.len() {
+    let count = ends.len();
+    while k < count {
         let end = ends[k] as usize;
         at = put_field(text, from, end, full, out, at);
         from = end;

@@ -26,6 +26,9 @@ start-requires c κs = search needs
 loop-holds : tie.Need-loop-holds Inv-loop μ-loop
 loop-holds c = search needs
 
+cast-loop : tie.Need-cast-loop Inv-loop μ-loop
+cast-loop c = search needs
+
 read-requires : tie.Need-read-requires Inv-loop μ-loop
 read-requires c κs = search needs
 
@@ -75,6 +78,7 @@ main-spec =
     slice-aggregate-buffer
     start-requires
     loop-holds
+    cast-loop
     read-requires
     complain-requires
     returns

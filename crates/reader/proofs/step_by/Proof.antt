@@ -2,7 +2,7 @@
 use native.Mathlib.Nat.{div-one}
 use borrow.Author.Needs.{needs}
 use Rattle.steps.proofs.Rules.{step-any, class-back}
-use Rattle.reader.proofs.Acts.{act-back}
+use Rattle.steps.proofs.Acts.{act-back}
 use Rattle.reader.proofs.step_by.Statement.{statement}
 use Rattle.reader.proofs.step_by.Tie as tie
 

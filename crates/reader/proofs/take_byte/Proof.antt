@@ -4,8 +4,7 @@ use native.Mathlib.Omega.{arith}
 use borrow.Author.Needs.{needs}
 use Rattle.format.specs.Dialect.{dialect}
 use Rattle.steps.specs.declared.Stepped.{Stepped}
-use Rattle.steps.specs.Numbers.{formOf}
-use Rattle.reader.specs.Walk.{actOf}
+use Rattle.steps.specs.Numbers.{formOf, actOf}
 use Rattle.format.proofs.Filling.{stay, push, push-equal}
 use Rattle.reader.proofs.Walk.{Does, goes, text-fits, end-fits, ends-fit, stops}
 use Rattle.reader.proofs.take_byte.Statement.{statement}

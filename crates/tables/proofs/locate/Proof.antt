@@ -31,14 +31,14 @@ cast-first c =
     let f = c .before .before in
     omega (arith, below c, f .before .before .shared-slice-known2 .given (f .field-number .result))
 
-mul-t8 : tie.Need-mul-t8
-mul-t8 c = search needs
+mul-length : tie.Need-mul-length
+mul-length c = search needs
 
-shared-slice-read-t11 : tie.Need-shared-slice-read-t11
-shared-slice-read-t11 c = search needs
+shared-slice-read-length : tie.Need-shared-slice-read-length
+shared-slice-read-length c = search needs
 
-sub-t12 : tie.Need-sub-t12
-sub-t12 c = below (c .before)
+sub-length : tie.Need-sub-length
+sub-length c = below (c .before)
 
 returns-2 : tie.Need-returns-2
 returns-2 c =
@@ -54,7 +54,7 @@ locate-spec =
     returns
     start-of-requires
     cast-first
-    mul-t8
-    shared-slice-read-t11
-    sub-t12
+    mul-length
+    shared-slice-read-length
+    sub-length
     returns-2)

@@ -14,11 +14,11 @@ use Rattle.writer.proofs.put.Statement.{statement}
 use Rattle.writer.proofs.put.Tie as tie
 
 abbrev Inv-loop : tie.InvT-loop
-Inv-loop text ends rows full out₀ k₀ r₀ from₀ at₀ out k r from at =
+Inv-loop text ends rows full out₀ k₀ r₀ from₀ at₀ count out k r from at =
     Writing full text ends rows (over (tableBy (formIn full) strict (tableOf text ends rows)) out₀) k r from out at
 
 abbrev μ-loop : tie.MeasureT-loop
-μ-loop text ends rows full out₀ k₀ r₀ from₀ at₀ out k r from at = length ends - k
+μ-loop text ends rows full out₀ k₀ r₀ from₀ at₀ count out k r from at = length ends - k
 
 -- from the loop back to the beginning
 abbrev start : tie.At-loop Inv-loop μ-loop → tie.Start Inv-loop μ-loop

@@ -49,8 +49,8 @@ returns-2 c =
     let f = c .before in
     Outcome.refusal-14 (omega (arith, f .before .if1 .left)) (f .is-well-formed .ensures .if-false (not-true (f .is-well-formed .result) (c .if2 .taken)))
 
-first-barred-requires : tie.Need-first-barred-requires
-first-barred-requires c κs = search needs
+first-forbidden-requires : tie.Need-first-forbidden-requires
+first-forbidden-requires c κs = search needs
 
 cast-t12 : tie.Need-cast-t12
 cast-t12 c = omega (arith, c .if3 .taken, few-bytes (c .before .before))
@@ -58,7 +58,10 @@ cast-t12 c = omega (arith, c .if3 .taken, few-bytes (c .before .before))
 returns-3 : tie.Need-returns-3
 returns-3 c =
     let e = c .before .before in
-    by-3 (formed e) (known e) (c .before .first-barred .ensures) (c .if3 .taken)
+    by-3 (formed e) (known e) (c .before .first-forbidden .ensures) (c .if3 .taken)
+
+cast-first-outside : tie.Need-cast-first-outside
+cast-first-outside c = search needs
 
 first-outside-requires : tie.Need-first-outside-requires
 first-outside-requires c κs = (formed (c .before .before) .ends-never-fall, omega arith, omega arith)
@@ -70,7 +73,7 @@ returns-4 : tie.Need-returns-4
 returns-4 c =
     let b = c .before .before in
     let e = b .before .before in
-    by-9 (formed e) (b .before .first-barred .ensures) (b .if3 .left) (known e) (c .before .first-outside .ensures) (c .if4 .taken)
+    by-9 (formed e) (b .before .first-forbidden .ensures) (b .if3 .left) (known e) (c .before .first-outside .ensures) (c .if4 .taken)
 
 first-uneven-requires : tie.Need-first-uneven-requires
 first-uneven-requires c κs =
@@ -85,7 +88,7 @@ returns-5 c =
     let f = c .before .before in
     let b = f .before .before in
     let e = b .before .before in
-    by-10 (formed e) (b .before .first-barred .ensures) (b .if3 .left) (f .before .first-outside .ensures) (f .if4 .left) (known e)
+    by-10 (formed e) (b .before .first-forbidden .ensures) (b .if3 .left) (f .before .first-outside .ensures) (f .if4 .left) (known e)
     (c .before .first-uneven .ensures) (c .if5 .taken)
 
 write-held-requires : tie.Need-write-held-requires
@@ -96,7 +99,7 @@ write-held-requires c κs =
     let e = b .before .before in (
       known e,
       formed e,
-      held (formed e) (b .before .first-barred .ensures) (b .if3 .left) (f .before .first-outside .ensures) (f .if4 .left)
+      held (formed e) (b .before .first-forbidden .ensures) (b .if3 .left) (f .before .first-outside .ensures) (f .if4 .left)
           (r .before .first-uneven .ensures) (r .if5 .left),
     )
 
@@ -113,9 +116,10 @@ write-spec =
     returns
     is-well-formed-requires
     returns-2
-    first-barred-requires
+    first-forbidden-requires
     cast-t12
     returns-3
+    cast-first-outside
     first-outside-requires
     cast-t14
     returns-4

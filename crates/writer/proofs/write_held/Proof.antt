@@ -8,6 +8,9 @@ use Rattle.writer.proofs.write_held.Tie as tie
 size-requires : tie.Need-size-requires
 size-requires c κs = search needs
 
+cast-if1 : tie.Need-cast-if1
+cast-if1 c = search needs
+
 returns : tie.Need-returns
 returns c =
     let s = c .before in
@@ -40,4 +43,4 @@ returns-3 c =
 pub write-held-spec : {M : Type 1} → statement M
 write-held-spec =
     tie.close
-    (tie.spec size-requires returns returns-2 put-requires cast-t14 same-length returns-3)
+    (tie.spec size-requires cast-if1 returns returns-2 put-requires cast-t14 same-length returns-3)

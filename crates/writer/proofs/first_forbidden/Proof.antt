@@ -1,4 +1,4 @@
--- `writer::first_barred` meets its contract.
+-- `writer::first_forbidden` meets its contract.
 use Prim.Native.Nat.{ℕ, _+_, _-_, _≤_, _<_}
 use native.Mathlib.Numerals.{add-one}
 use native.Mathlib.Omega.{arith}
@@ -11,35 +11,35 @@ use Rattle.format.specs.Dialect.{strict, classOf}
 use Rattle.steps.specs.Numbers.{classNumber}
 use Rattle.steps.proofs.Numbers.{forbidden-number}
 use Rattle.writer.specs.Seek.{Sought}
-use Rattle.writer.specs.Write.{Barred}
+use Rattle.writer.specs.Write.{Forbidden}
 use Rattle.writer.proofs.Seeking.{Further, begin, found, nowhere, pass}
 use borrow.Author.Needs.{needs}
-use Rattle.writer.proofs.first_barred.Statement.{statement}
-use Rattle.writer.proofs.first_barred.Tie as tie
+use Rattle.writer.proofs.first_forbidden.Statement.{statement}
+use Rattle.writer.proofs.first_forbidden.Tie as tie
 
 module _ (f : Bytes) (i : ℕ) where
   ahead : i < length f → drop i f ≡ getD f i 0 ∷ drop (i + 1) f
   ahead h = rw add-one (drop-cons f i 0 h)
 
-  stops : {n : ℕ} → Further Barred f i (drop i f) → i < length f → n ≡ classNumber (classOf strict (getD f i 0)) → n ≡ 6 → Sought Barred f i
-  stops g h e q = found Barred f i (getD f i 0) (drop (i + 1) f) (subst (Further Barred f i) (ahead h) g) (forbidden-number _ (sym e ∙ q))
+  stops : {n : ℕ} → Further Forbidden f i (drop i f) → i < length f → n ≡ classNumber (classOf strict (getD f i 0)) → n ≡ 6 → Sought Forbidden f i
+  stops g h e q = found Forbidden f i (getD f i 0) (drop (i + 1) f) (subst (Further Forbidden f i) (ahead h) g) (forbidden-number _ (sym e ∙ q))
 
   goes-on :
-      {n : ℕ} → Further Barred f i (drop i f) → i < length f → n ≡ classNumber (classOf strict (getD f i 0)) → (n ≡ 6 → ⊥)
-      → Further Barred f (i + 1) (drop (i + 1) f)
-  goes-on g h e q = pass Barred f i (getD f i 0) (drop (i + 1) f) (subst (Further Barred f i) (ahead h) g) (λ z. q (e ∙ rw z))
+      {n : ℕ} → Further Forbidden f i (drop i f) → i < length f → n ≡ classNumber (classOf strict (getD f i 0)) → (n ≡ 6 → ⊥)
+      → Further Forbidden f (i + 1) (drop (i + 1) f)
+  goes-on g h e q = pass Forbidden f i (getD f i 0) (drop (i + 1) f) (subst (Further Forbidden f i) (ahead h) g) (λ z. q (e ∙ rw z))
 
-  ends : Further Barred f i (drop i f) → length f ≤ i → Sought Barred f i
-  ends g h = nowhere Barred f i (subst (Further Barred f i) (drop-of-length-le f h) g)
+  ends : Further Forbidden f i (drop i f) → length f ≤ i → Sought Forbidden f i
+  ends g h = nowhere Forbidden f i (subst (Further Forbidden f i) (drop-of-length-le f h) g)
 
 abbrev Inv-loop : tie.InvT-loop
-Inv-loop text i₀ i = (i ≤ length text) × Further Barred text i (drop i text)
+Inv-loop text i₀ i = (i ≤ length text) × Further Forbidden text i (drop i text)
 
 abbrev μ-loop : tie.MeasureT-loop
 μ-loop text i₀ i = length text - i
 
 loop-holds : tie.Need-loop-holds Inv-loop μ-loop
-loop-holds c = (omega arith, begin Barred _)
+loop-holds c = (omega arith, begin Forbidden _)
 
 add-i : tie.Need-add-i Inv-loop μ-loop
 add-i c = search needs
@@ -66,8 +66,8 @@ loop-again c =
 returns-2 : tie.Need-returns-2 Inv-loop μ-loop
 returns-2 c = ends _ _ (c .before .loop .inv .1) (c .loop-test .left)
 
-pub first-barred-spec : {M : Type 1} → statement M
-first-barred-spec =
+pub first-forbidden-spec : {M : Type 1} → statement M
+first-forbidden-spec =
     tie.close
     (tie.spec
     Inv-loop

@@ -2,9 +2,8 @@
 use mathlib.Core.Path.{_≡_, refl}
 use mathlib.Core.Bool.{Bool, true, false, cond, _||_}
 use Rattle.format.specs.Dialect.{Class}
 use Rattle.steps.specs.Steps.{Form, start, lead, bare, quoted, shut, tail, cr, nothing, put, hold, record-end, Move, to, end, wrong, Act, refuse, go, carry, inQuotes, behindCr, isBlank, next, stepOf}
-use Rattle.steps.specs.Numbers.{formOf, coded}
-use Rattle.reader.specs.Walk.{actOf}
+use Rattle.steps.specs.Numbers.{formOf, coded, actOf}
 
 abbrev Back : Act → Type 0
 Back a = actOf (coded a) ≡ a
