@@ -3,7 +3,7 @@ use Prim.Native.Nat.{ℕ}
 use mathlib.Core.List.{List, [], _∷_}
 use Rattle.format.specs.declared.Answer.{Answer, the-variants.Taken, the-variants.Declined}
 use Rattle.format.specs.declared.Written.{Written, the-variants.Whole, the-variants.UnknownMode, the-variants.Malformed, the-variants.Forbidden, the-variants.LongContent, the-variants.Uneven, the-variants.LongFile, the-variants.NoRoom}
-use Rattle.format.specs.declared.Found.{Found, the-variants.At, the-variants.Unfit, the-variants.Twice, the-variants.Missing}
+use Rattle.format.specs.declared.Found.{Found, the-variants.At, the-variants.Malformed as Unfit, the-variants.Twice, the-variants.Missing}
 use Rattle.format.specs.declared.Part.{Part, the-variants.Lies, the-variants.Absent}
 
 -- refusal, line, column, byte, records, fields, text length, report

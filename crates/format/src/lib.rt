@@ -57,7 +57,7 @@ pub enum Written {
 // The column search's answer: the column, or why there is none to give.
 pub enum Found {
     At(FieldNumber),
-    Unfit,
+    Malformed,
     Twice(FieldNumber),
     Missing,
 }

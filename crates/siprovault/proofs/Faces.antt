@@ -4,7 +4,7 @@ use mathlib.Core.Path.{_≡_, sym, ap, subst}
 use mathlib.Core.List.{List}
 use Rattle.format.specs.declared.Answer.{Answer, the-variants.Taken, the-variants.Declined}
 use Rattle.format.specs.declared.Written.{Written, the-variants.Whole, the-variants.UnknownMode, the-variants.Malformed, the-variants.Forbidden, the-variants.LongContent, the-variants.Uneven, the-variants.LongFile, the-variants.NoRoom}
-use Rattle.format.specs.declared.Found.{Found, the-variants.At, the-variants.Unfit, the-variants.Twice, the-variants.Missing}
+use Rattle.format.specs.declared.Found.{Found, the-variants.At, the-variants.Malformed as Unfit, the-variants.Twice, the-variants.Missing}
 use Rattle.format.specs.declared.Part.{Part, the-variants.Lies, the-variants.Absent}
 use Rattle.format.specs.Answer.{readerNumbers, writerNumbers, searchNumbers, partNumbers}
 use Rattle.format.specs.Table.{Bytes}

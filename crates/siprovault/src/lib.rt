@@ -204,7 +204,7 @@ fn found(answer: Found) -> SvColumn
             refusal: 0,
             column: k.0,
         },
-        Found::Unfit => SvColumn {
+        Found::Malformed => SvColumn {
             refusal: 14,
             column: 0,
         },

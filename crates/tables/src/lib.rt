@@ -81,7 +81,7 @@ pub fn find_column(text: &[u8], ends: &[u32], rows: &[u32], name: &[u8]) -> Foun
 {
     let formed = is_well_formed(text, ends, rows);
     if !formed {
-        return Found::Unfit;
+        return Found::Malformed;
     }
     if rows.len() == 0 {
         return Found::Missing;
