@@ -4,10 +4,14 @@ use std::io::{self, BufWriter};
 
 mod model;
 
+#[path = "cases/big_shapes.rs"]
+mod big_shapes;
 #[path = "cases/content_limit.rs"]
 mod content_limit;
 #[path = "cases/dialect_bytes.rs"]
 mod dialect_bytes;
+#[path = "cases/every_byte.rs"]
+mod every_byte;
 #[path = "cases/file_limit.rs"]
 mod file_limit;
 #[path = "cases/hand_states.rs"]
@@ -43,6 +47,7 @@ fn main() -> io::Result<()> {
     let mut stream = stream::Stream::new(out)?;
     paper::send(&mut stream)?;
     short_files::send(&mut stream)?;
+    every_byte::send(&mut stream)?;
     dialect_bytes::send(&mut stream)?;
     rooms::send(&mut stream)?;
     random_files::send(&mut stream)?;
@@ -54,5 +59,6 @@ fn main() -> io::Result<()> {
     random_tables::send(&mut stream)?;
     malformed::send(&mut stream)?;
     headers::send(&mut stream)?;
+    big_shapes::send(&mut stream)?;
     stream.finish()
 }

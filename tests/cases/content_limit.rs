@@ -58,7 +58,7 @@ fn send_one<W: Write>(
     let length: usize = recipe.iter().map(|(part, times)| part.len() * times).sum();
     // The last three bytes come one by one: faults at the field's end are found there.
     let mut pieces = random_pieces(random, length - 3);
-    pieces.extend([(1, 1), (1, 1), (1, 1)]);
+    pieces.extend([1, 1, 1]);
     stream.long(dialect, recipe, &pieces, usual(length, random.below(8)))
 }
 

@@ -2,8 +2,8 @@
 
 use crate::model::reader::{Answer, Room};
 use crate::model::{refusal, FILE_LIMIT};
-use crate::rooms::{changed, exact};
-use crate::stream::{Piece, Recipe, Stream};
+use crate::rooms::{ample, changed, exact};
+use crate::stream::{Recipe, Stream};
 use std::io::{self, Write};
 
 const STRICT: (u8, u8) = (b',', 0);
@@ -40,21 +40,34 @@ fn send_one<W: Write>(
 ) -> io::Result<()> {
     let own = |&(part, times): &(&[u8], usize)| (part.to_vec(), times);
     let mut recipe: Recipe = parts.iter().map(own).collect();
-    let mut pieces: Vec<Piece> = vec![(65_536, FILE_LIMIT / 65_536)];
+    let mut pieces = doubling_pieces();
     stream.long(dialect, &recipe, &pieces, rooms)?;
     if !more.is_empty() {
-        pieces.extend(more.iter().map(|&length| (length, 1)));
+        pieces.extend(more);
         recipe.push((b"\n".to_vec(), more.iter().sum()));
         stream.long(dialect, &recipe, &pieces, rooms)?;
     }
     Ok(())
 }
 
-/// A file of this size is read once with exactly enough room and once with an end too few.
+/// Few pieces that make up the limit, each as long as all before it, since the model reads all
+/// bytes so far anew for each of them.
+fn doubling_pieces() -> Vec<usize> {
+    let mut pieces = vec![65_536];
+    let mut fed = 65_536;
+    while fed < FILE_LIMIT {
+        pieces.push(fed);
+        fed *= 2;
+    }
+    pieces
+}
+
+/// A file of this size is read once with exactly enough room and once with an end too few; or, if
+/// it is refused, once with ample room.
 fn rooms(answer: &Answer) -> Vec<Room> {
     if answer.refusal == refusal::ACCEPTED {
         vec![exact(answer), changed(answer, 2)]
     } else {
-        vec![changed(answer, 0)]
+        vec![ample(FILE_LIMIT)]
     }
 }

@@ -19,7 +19,7 @@ pub fn send<W: Write>(stream: &mut Stream<W>) -> io::Result<()> {
             leniencies: random.below(16) as u8,
             fed_first: &random.bytes(BYTES, lengths.0),
             seed: random.next(),
-            // Every third state is hit all over, the others in one to four places.
+            // Every third state is hit all over, the others one, two or four times.
             hits: (number % 3 * (1 + random.below(2))) as u64,
             fed_then: &random.bytes(BYTES, lengths.1),
         };

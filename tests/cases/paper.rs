@@ -72,7 +72,7 @@ pub fn send<W: Write>(stream: &mut Stream<W>) -> io::Result<()> {
             stream.dialect(b',', *leniencies)?;
             stream.walk(file, rooms)?;
         } else {
-            let (recipe, pieces) = (vec![(file.to_vec(), 1)], [(file.len(), 1)]);
+            let (recipe, pieces) = (vec![(file.to_vec(), 1)], [file.len()]);
             stream.long((b',', *leniencies), &recipe, &pieces, rooms)?;
         }
     }

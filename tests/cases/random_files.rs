@@ -6,7 +6,7 @@ use crate::model::table::Table;
 use crate::model::{BLANK, CR, LF, QUOTE, TAB};
 use crate::random::Random;
 use crate::rooms::usual;
-use crate::stream::{Piece, Stream};
+use crate::stream::Stream;
 use std::io::{self, Write};
 
 /// Tables for each dialect; each gives a whole file, a file read in another dialect and three
@@ -34,7 +34,7 @@ pub fn send<W: Write>(stream: &mut Stream<W>) -> io::Result<()> {
     Ok(())
 }
 
-fn all_dialects() -> impl Iterator<Item = (u8, u8)> {
+pub fn all_dialects() -> impl Iterator<Item = (u8, u8)> {
     let sums = 0..=leniency::ALL;
     sums.flat_map(|leniencies| DELIMITERS.iter().map(move |&d| (d, leniencies)))
 }
@@ -71,15 +71,15 @@ fn send_long<W: Write>(
 }
 
 /// A few pieces, some of them empty, that make up a length.
-pub fn random_pieces(random: &mut Random, length: usize) -> Vec<Piece> {
+pub fn random_pieces(random: &mut Random, length: usize) -> Vec<usize> {
     let mut pieces = Vec::new();
     let mut left = length;
     while pieces.len() < 5 && left > 0 {
         let piece = random.below(left.min(2_000) + 1);
-        pieces.push((piece, 1));
+        pieces.push(piece);
         left -= piece;
     }
-    pieces.push((left, 1));
+    pieces.push(left);
     pieces
 }
 

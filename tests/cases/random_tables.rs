@@ -2,7 +2,7 @@
 
 use crate::model::table::Table;
 use crate::random::Random;
-use crate::small_tables::tight_writes;
+use crate::rooms::usual_writes;
 use crate::stream::Stream;
 use std::io::{self, Write};
 
@@ -14,7 +14,7 @@ pub fn send<W: Write>(stream: &mut Stream<W>) -> io::Result<()> {
     for _ in 0..TABLES {
         let table = random_table(&mut random);
         let names = some_names(&table);
-        stream.table(&table, &tight_writes(&table), &names, &every_place(&table))?;
+        stream.table(&table, &usual_writes(&table), &names, &every_place(&table))?;
     }
     Ok(())
 }

@@ -1,7 +1,9 @@
-//! How much room a read is lent.
+//! How much room a read or a write is lent.
 
 use crate::model::reader::{check, Answer, Room};
-use crate::model::refusal;
+use crate::model::table::Table;
+use crate::model::writer::{write, FULL, PLAIN};
+use crate::model::{refusal, FILE_LIMIT};
 use crate::stream::Stream;
 use std::io::{self, Write};
 
@@ -12,7 +14,7 @@ const NONE: Room = Room {
 };
 
 /// Room in which a refused read of a file of this length could do harm.
-fn ample(length: usize) -> Room {
+pub fn ample(length: usize) -> Room {
     Room {
         text: length + 3,
         ends: length.min(64) + 2,
@@ -58,6 +60,32 @@ pub fn usual(length: usize, turn: usize) -> impl Fn(&Answer) -> Vec<Room> {
             vec![ample(length), NONE]
         }
     }
+}
+
+/// The driver has no more room than this.
+const MOST_ROOM: usize = FILE_LIMIT + 16_384;
+
+/// Room in which a refused write of this table could do harm: no form of it is longer, unless that
+/// is more than the driver has.
+pub fn ample_to_write(table: &Table) -> usize {
+    MOST_ROOM.min(2 * table.text.len() + 4 * table.ends.len() + 3)
+}
+
+/// Writes in both modes: exactly enough room, one byte too few and some more; or, for a table that
+/// is refused, ample room and none.
+pub fn usual_writes(table: &Table) -> Vec<(u8, usize)> {
+    let mut writes = Vec::new();
+    for mode in [PLAIN, FULL] {
+        let answer = write(table, mode, usize::MAX).0;
+        let length = answer.length as usize;
+        let rooms = if answer.refusal == refusal::ACCEPTED {
+            vec![length, length.saturating_sub(1), length + 3]
+        } else {
+            vec![ample_to_write(table), 0]
+        };
+        writes.extend(rooms.into_iter().map(|room| (mode, room)));
+    }
+    writes
 }
 
 const FILES: [(&[u8], u8); 6] = [

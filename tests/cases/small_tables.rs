@@ -1,7 +1,7 @@
 //! Every small table over the bytes that the writer treats in their own way, in both modes.
 
 use crate::model::table::Table;
-use crate::model::writer::{write, FULL, PLAIN};
+use crate::rooms::usual_writes;
 use crate::short_files::for_each_file;
 use crate::stream::Stream;
 use std::io::{self, Write};
@@ -27,21 +27,10 @@ pub fn send<W: Write>(stream: &mut Stream<W>) -> io::Result<()> {
         let fields: usize = shape.iter().sum();
         for number in 0..contents.len().pow(fields as u32) {
             let table = nth_table(shape, &contents, number);
-            stream.table(&table, &tight_writes(&table), &[], &[])?;
+            stream.table(&table, &usual_writes(&table), &[], &[])?;
         }
     }
     Ok(())
-}
-
-/// Writes in both modes with exactly enough room, with one byte too few and with some more.
-pub fn tight_writes(table: &Table) -> Vec<(u8, usize)> {
-    let mut writes = Vec::new();
-    for mode in [PLAIN, FULL] {
-        let length = write(table, mode, usize::MAX).0.length as usize;
-        let rooms = [length, length.saturating_sub(1), length + 3];
-        writes.extend(rooms.map(|room| (mode, room)));
-    }
-    writes
 }
 
 pub fn every_content(alphabet: &[u8], longest: usize) -> Vec<Vec<u8>> {

@@ -12,8 +12,8 @@
 //! - `W`, a walked file: how many bytes of the file before it stay and how many come, each of these
 //!   with the answer so far; the outcome.
 //! - `L`, a long file: delimiter and leniencies; how many parts, each a list and how often it
-//!   stands; how many pieces, each its length, how often it is fed and the answer so far; the
-//!   outcome. A dialect comes before the next walked file.
+//!   stands; how many pieces, each its length and the answer so far; the outcome. A dialect comes
+//!   before the next walked file.
 //! - `T`, a table: text, ends and rows as lists; how many writes, finds and shows, and each of them.
 //! - `C`, a check state put together by hand: delimiter and leniencies, the list fed first, a seed,
 //!   how many places are hit (0: all), the list fed then.
@@ -36,9 +36,6 @@ const PLAIN_LIST: usize = 64;
 
 /// A file as parts, each standing a number of times.
 pub type Recipe = Vec<(Vec<u8>, usize)>;
-
-/// A piece to be fed, and how often before the check is asked.
-pub type Piece = (usize, usize);
 
 /// A check state put together by hand: a real one, then bytes of it hit.
 pub struct HandState<'a> {
@@ -105,7 +102,7 @@ impl<W: Write> Stream<W> {
         &mut self,
         (delimiter, leniencies): (u8, u8),
         recipe: &Recipe,
-        pieces: &[Piece],
+        pieces: &[usize],
         rooms: impl Fn(&Answer) -> Vec<Room>,
     ) -> io::Result<()> {
         self.item(b'L')?;
@@ -119,10 +116,9 @@ impl<W: Write> Stream<W> {
         }
         let mut fed = 0;
         self.number(pieces.len() as u64)?;
-        for &(length, times) in pieces {
-            fed += length * times;
+        for &length in pieces {
+            fed += length;
             self.number(length as u64)?;
-            self.number(times as u64)?;
             self.answer(&check(&file[..fed], delimiter, leniencies).0.numbers())?;
         }
         assert_eq!(fed, file.len(), "the pieces are the whole file");

@@ -1,9 +1,9 @@
 //! The writer's refusals, alone and together, for the order 1, 14, 3, 9, 10, 2, 15.
 
 use crate::model::table::Table;
-use crate::model::writer::{write, FULL, PLAIN};
+use crate::model::writer::{FULL, PLAIN};
 use crate::model::{CONTENT_LIMIT, FILE_LIMIT};
-use crate::small_tables::tight_writes;
+use crate::rooms::{ample_to_write, usual_writes};
 use crate::stream::Stream;
 use std::io::{self, Write};
 
@@ -19,6 +19,10 @@ pub fn send<W: Write>(stream: &mut Stream<W>) -> io::Result<()> {
             send_combination(stream, faults, late)?;
         }
     }
+    stream.section("contents of 4,096 and 4,097 bytes, written both ways")?;
+    for byte in *b"a,\"\r\n " {
+        send_contents(stream, byte)?;
+    }
     stream.section("every mode of the writer")?;
     for records in [vec![], plain_records(), vec![vec![vec![0x07]]]] {
         let table = Table::of(&records);
@@ -27,9 +31,15 @@ pub fn send<W: Write>(stream: &mut Stream<W>) -> io::Result<()> {
     }
     stream.section("tables at the file size limit")?;
     for table in big_tables() {
-        send_big(stream, &table)?;
+        let writes = [usual_writes(&table), bad_modes(&table)].concat();
+        stream.table(&table, &writes, &[], &[])?;
     }
     Ok(())
+}
+
+/// Unknown modes, without room and with room in which they could do harm.
+fn bad_modes(table: &Table) -> Vec<(u8, usize)> {
+    vec![(2, 0), (255, ample_to_write(table))]
 }
 
 fn plain_records() -> Records {
@@ -50,16 +60,30 @@ fn send_combination<W: Write>(
         }
     }
     let table = Table::of(&records);
-    let writes = [
-        tight_writes(&table),
-        vec![(PLAIN, 0), (FULL, 0), (2, 0), (255, 64)],
-    ]
-    .concat();
+    let no_room = vec![(PLAIN, 0), (FULL, 0)];
+    let writes = [usual_writes(&table), no_room, bad_modes(&table)].concat();
     stream.table(&table, &writes, &[], &[])?;
     let mut malformed = table;
     malformed.rows.pop();
-    let writes = [(PLAIN, 64), (FULL, 0), (2, 64)];
+    let writes = [usual_writes(&malformed), bad_modes(&malformed)].concat();
     stream.table(&malformed, &writes, &[], &[])
+}
+
+/// Contents at the limit and one byte over it: alone, and in a table of two by two, from each of its
+/// fields on.
+fn send_contents<W: Write>(stream: &mut Stream<W>, byte: u8) -> io::Result<()> {
+    for length in [CONTENT_LIMIT, CONTENT_LIMIT + 1] {
+        let content = vec![byte; length];
+        let alone = Table::of(&[vec![content.clone()]]);
+        stream.table(&alone, &usual_writes(&alone), &[], &[])?;
+        for first in 0..4 {
+            let mut fields = vec![b"x".to_vec(); 4];
+            fields[first..].fill(content.clone());
+            let table = Table::of(&[fields[..2].to_vec(), fields[2..].to_vec()]);
+            stream.table(&table, &usual_writes(&table), &[], &[])?;
+        }
+    }
+    Ok(())
 }
 
 fn place(records: &mut Records, late: bool) -> &mut Vec<u8> {
@@ -99,12 +123,4 @@ fn big_tables() -> Vec<Table> {
     malformed.rows.pop();
     tables.push(malformed);
     tables
-}
-
-fn send_big<W: Write>(stream: &mut Stream<W>, table: &Table) -> io::Result<()> {
-    let length = write(table, PLAIN, usize::MAX).0.length as usize;
-    let rooms = [length, length.saturating_sub(1)];
-    let others = [(FULL, 0), (FULL, 64), (2, 64)];
-    let writes = [&rooms.map(|room| (PLAIN, room))[..], &others].concat();
-    stream.table(table, &writes, &[], &[])
 }

@@ -11,6 +11,7 @@ enum { MOST_WALKED = 1024 };
 
 static struct dialect dialect;
 static struct list file;
+static struct list piece;
 static struct table expected;
 static struct lent_table lent;
 
@@ -25,6 +26,7 @@ static sv_check fed_at_once[MOST_WALKED + 1];
 void files_open(void)
 {
     list_open(&file, sizeof(uint8_t), MOST);
+    list_open(&piece, sizeof(uint8_t), MOST);
     table_open(&expected);
     lent_table_open(&lent);
 }
@@ -90,14 +92,27 @@ static void take_outcome(const uint32_t *answer_for_whole)
     }
 }
 
+/* Feeds a copy of the bytes that ends before a page that nobody may touch. */
+static sv_check feed(sv_check state, const uint8_t *bytes, size_t length)
+{
+    list_resize(&piece, length);
+    memcpy(list_start(&piece), bytes, length);
+    sv_check fed = call_feed(state, list_start(&piece), length);
+    if (memcmp(list_start(&piece), bytes, length) != 0)
+        disagree("sv_check_feed changed the piece that it reads");
+    return fed;
+}
+
 /* Asks twice: what was asked first must not change what is asked then. */
-static void ask_twice(sv_check state, const uint32_t *answer, const char *how, size_t fed)
+static void ask_twice(sv_check state, const uint32_t *answer, const char *how, size_t fed,
+                      size_t last_piece)
 {
     uint32_t came[ANSWER];
     for (int time = 1; time <= 2; time++) {
         call_ask(state, came);
-        agree(answer, came, ANSWER, "sv_check_ask after %lu bytes, %s, asked %s",
-              (unsigned long)fed, how, time == 1 ? "once" : "twice");
+        agree(answer, came, ANSWER,
+              "sv_check_ask after %lu bytes, %s, the last piece of %lu, asked %s",
+              (unsigned long)fed, how, (unsigned long)last_piece, time == 1 ? "once" : "twice");
     }
 }
 
@@ -111,36 +126,36 @@ void take_dialect(void)
     fed_at_once[0] = fed_by_byte[0];
 }
 
-/* Feeds the byte that comes to what was fed byte by byte, now and then behind an empty piece. */
+/* Feeds the byte that comes to what was fed byte by byte, every second time behind an empty piece,
+   and feeds the file so far at once. */
 static void take_next_byte(void)
 {
     if (walked_length == MOST_WALKED)
         broken_stream("a walked file is too long");
     size_t before = walked_length++;
-    uint32_t came[ANSWER];
     walked[before] = take_byte();
     take_answer(answers[walked_length], ANSWER);
     sv_check state = fed_by_byte[before];
-    if (walked_length % 2 == 0)
-        state = call_feed(state, walked, 0);
-    fed_by_byte[walked_length] = call_feed(state, &walked[before], 1);
-    ask_twice(fed_by_byte[walked_length], answers[walked_length], "fed one by one", walked_length);
-    fed_at_once[walked_length] = call_feed(fed_at_once[0], walked, walked_length);
-    call_ask(fed_at_once[walked_length], came);
-    agree(answers[walked_length], came, ANSWER, "sv_check_ask after %lu bytes, fed at once",
-          (unsigned long)walked_length);
+    if (walked_length % 2 == 0) {
+        state = feed(state, walked, 0);
+        ask_twice(state, answers[before], "fed one by one", before, 0);
+    }
+    fed_by_byte[walked_length] = feed(state, &walked[before], 1);
+    ask_twice(fed_by_byte[walked_length], answers[walked_length], "fed one by one", walked_length,
+              1);
+    fed_at_once[walked_length] = feed(fed_at_once[0], walked, walked_length);
+    ask_twice(fed_at_once[walked_length], answers[walked_length], "fed at once", walked_length,
+              walked_length);
 }
 
-/* Feeds the file in two pieces for every cut; the last of them leaves an empty piece. */
+/* Feeds the file in two pieces for every cut; the last of them leaves an empty piece. What comes
+   before the cut was fed, and asked, when its last byte came. */
 static void check_every_cut(void)
 {
-    const uint8_t *bytes = list_start(&file);
-    for (size_t cut = 1; cut <= file.length; cut++) {
-        uint32_t came[ANSWER];
-        sv_check state = call_feed(fed_at_once[cut], bytes + cut, file.length - cut);
-        call_ask(state, came);
-        agree(answers[file.length], came, ANSWER, "sv_check_ask after pieces of %lu and %lu bytes",
-              (unsigned long)cut, (unsigned long)(file.length - cut));
+    for (size_t cut = 1; cut <= walked_length; cut++) {
+        sv_check state = feed(fed_at_once[cut], walked + cut, walked_length - cut);
+        ask_twice(state, answers[walked_length], "fed in two pieces", walked_length,
+                  walked_length - cut);
     }
 }
 
@@ -148,16 +163,15 @@ static void check_every_cut(void)
 static void check_small_pieces(void)
 {
     static uint32_t random = 1;
-    const uint8_t *bytes = list_start(&file);
     sv_check state = call_start(dialect);
-    for (size_t fed = 0; fed < file.length;) {
+    for (size_t fed = 0; fed < walked_length;) {
         random = random * 1664525 + 1013904223;
-        size_t piece = random >> 29;
-        if (piece > file.length - fed)
-            piece = file.length - fed;
-        state = call_feed(state, bytes + fed, piece);
-        fed += piece;
-        ask_twice(state, answers[fed], "fed in small pieces", fed);
+        size_t length = random >> 29;
+        if (length > walked_length - fed)
+            length = walked_length - fed;
+        state = feed(state, walked + fed, length);
+        fed += length;
+        ask_twice(state, answers[fed], "fed in small pieces", fed, length);
     }
 }
 
@@ -170,7 +184,7 @@ void take_walked_file(void)
         broken_stream("more of a walked file stays than there is");
     walked_length = kept;
     if (kept == 0)
-        ask_twice(fed_by_byte[0], answers[0], "nothing fed", 0);
+        ask_twice(fed_by_byte[0], answers[0], "nothing fed", 0, 0);
     while (coming-- > 0)
         take_next_byte();
     list_resize(&file, walked_length);
@@ -214,14 +228,12 @@ static void take_pieces(uint32_t *answer)
     sv_check state = call_start(dialect);
     for (uint64_t pieces = take_number(); pieces > 0; pieces--) {
         size_t length = take_number();
-        for (uint64_t times = take_number(); times > 0; times--) {
-            if (length > file.length - fed)
-                broken_stream("the pieces are longer than the file");
-            state = call_feed(state, bytes + fed, length);
-            fed += length;
-        }
+        if (length > file.length - fed)
+            broken_stream("the pieces are longer than the file");
+        state = feed(state, bytes + fed, length);
+        fed += length;
         take_answer(answer, ANSWER);
-        ask_twice(state, answer, "fed in pieces", fed);
+        ask_twice(state, answer, "fed in pieces", fed, length);
     }
 }
 

@@ -66,7 +66,7 @@ void *lend(struct lent *lent, size_t room)
     if (room > lent->capacity)
         broken_stream("more room than the driver has");
     lent->room = room;
-    /* Two fillings, so that no byte written can pass for untouched in both. */
+    /* One of two fillings: a byte written in many calls cannot pass for untouched in all. */
     lent->fill = coin() ? 0xC3 : 0x3C;
     memset(lent->area, lent->fill, bytes_of(lent));
     return (void *)or_null(lent->area + GUARD, room);

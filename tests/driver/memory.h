@@ -6,8 +6,9 @@
 #include <stddef.h>
 #include <stdint.h>
 
-/* No list or buffer has more entries than a file that is too long by a few bytes. */
-enum { MOST = 16777216 + 64 };
+/* No list or buffer has more entries than this: a file of the greatest length, and as much again as
+   quotes add to a table whose plain form has it (cases/rooms.rs, MOST_ROOM). */
+enum { MOST = 16777216 + 16384 };
 
 /* What the library only reads: a list of bytes or of 32-bit numbers. Its last entry stands before a
    page that nobody may touch, so a read behind it crashes. */

@@ -9,8 +9,8 @@
 
 enum { SECTIONS = 64, NAME = 80, PRINTED_OF_SECTION = 20 };
 
-/* Of a long list so many entries are shown at either end. */
-enum { SHOWN = 32 };
+/* A list of up to WHOLE entries is shown whole; of a longer one SHOWN entries at either end. */
+enum { WHOLE = 1024, SHOWN = 32 };
 
 static struct {
     char name[NAME];
@@ -99,7 +99,7 @@ bool agree(const uint32_t *expected, const uint32_t *came, unsigned count, const
 /* The entry to show after one: the next, or the first of those at the end. */
 static size_t next_shown(size_t entry, size_t length)
 {
-    if (entry + 1 != SHOWN || length <= 2 * SHOWN)
+    if (entry + 1 != SHOWN || length <= WHOLE)
         return entry + 1;
     printf(" ..");
     return length - SHOWN;

@@ -1,7 +1,7 @@
 /*
- * Writes tables by the library. Each comes on standard input as four numbers of 32 bits, the lowest byte
- * first (how long text, ends and rows are, and the mode), and the three lists; out go the refusal, the
- * length and the file. It ends with the input.
+ * Writes tables by the library. Each comes on standard input as four numbers of 32 bits, the lowest
+ * byte first (how long text, ends and rows are, and the mode), and the three lists; out go the
+ * refusal, the length and the file. It ends with the input.
  */
 #include "siprovault.h"
 
