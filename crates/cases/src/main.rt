@@ -41,10 +41,25 @@ fn lenient_files() {
 }
 
 fn long_contents() {
-    let fits: [u8; 4096] = [b'a'; 4096];
+    let mut fits = io::buffer();
+    fill(&mut fits);
     strict(b"4,096 times a", &fits);
-    let long: [u8; 4097] = [b'a'; 4097];
-    strict(b"4,097 times a", &long);
+    let mut long = io::large_buffer();
+    fill(&mut long);
+    one_too_long(&long);
+}
+
+fn one_too_long(file: &[u8]) {
+    let n = io::count(4097, file);
+    strict(b"4,097 times a", &file[..n]);
+}
+
+fn fill(buffer: &mut [u8]) {
+    let mut i = 0;
+    while i < buffer.len() {
+        buffer[i] = b'a';
+        i += 1;
+    }
 }
 
 fn strict(name: &[u8], file: &[u8]) {
