@@ -1,7 +1,7 @@
 -- Which bytes have which class. These laws stand for `classOf`: nothing else opens it.
 use Prim.Native.Nat.{ℕ, _≤_}
 use mathlib.Core.Path.{_≡_, refl, sym, subst, _∙_}
-use mathlib.Core.Bool.{Bool, true, false, cond, not, _&&_, _||_, and-false, true≢false}
+use mathlib.Core.Bool.{Bool, true, false, cond, not, _&&_, _||_, and-false, or-true, true≢false}
 use mathlib.Core.List.{_∷_}
 use mathlib.Core.Logic.{_⊎_, inl, inr}
 use native.Mathlib.Omega.{arith}
@@ -116,10 +116,6 @@ mark-class d b = go (view d b)
   where
     same : (n : ℕ) → eqb n n ≡ true
     same n = eq-eqb n n refl
-
-    or-true : (x : Bool) → (x || true) ≡ true
-    or-true true = refl
-    or-true false = refl
 
     go : {x : Class} → View d b x → isMark d b ≡ marks x
     go (is-delimiter q) = rw (q, same (d .delimiterByte))

@@ -2,7 +2,7 @@
 use Prim.Native.Nat.{ℕ, _≤_}
 use native.Mathlib.Omega.{arith}
 use mathlib.Core.Path.{_≡_, ap}
-use mathlib.Core.Bool.{Bool, true, false, _||_}
+use mathlib.Core.Bool.{or-true}
 use mathlib.Core.Logic.{_↔_}
 use mathlib.Core.List.{List, []}
 use lib.Dec.{T}
@@ -44,11 +44,7 @@ module _ {d : Dialect} where
 
   empty-allowed : Allowed d []
   unfolding EqualRows
-  empty-allowed = record { rows = go (d .allows ragged); contents = tt }
-    where
-      go : (x : Bool) → T (x || true)
-      go true = tt
-      go false = tt
+  empty-allowed = record { rows = rw (or-true (d .allows ragged)) tt; contents = tt }
 
   pub reading-held : {f : Bytes} {t : Table} {r : ℕ} → Reading d f t r → Holds d t
   reading-held (Reading.nothing EmptyFile.empty) = record { some-field = tt; none-forbidden = tt; rules = empty-allowed }

@@ -2,7 +2,7 @@
 use Prim.Native.Nat.{ℕ, _≤_, _<_}
 use native.Mathlib.Omega.{arith}
 use mathlib.Core.Path.{_≡_, refl}
-use mathlib.Core.Bool.{Bool, true, false, not, _||_, true≢false}
+use mathlib.Core.Bool.{Bool, true, false, not, _||_, true≢false, or-true}
 use mathlib.Core.List.{List, [], _∷_, _++_, flatten}
 use lib.Dec.{T, eqb}
 use lib.ListN.{length}
@@ -64,16 +64,8 @@ module _ (d : Dialect) where
 
   equal-rows : (t : Table) → None (λ cs. length cs ≡ widthOf t → ⊥) t → EqualRows d t
   unfolding EqualRows
-  equal-rows [] h = go (d .allows ragged)
-    where
-      go : (x : Bool) → T (x || true)
-      go true = tt
-      go false = tt
-  equal-rows (cs ∷ t) h = rw (none-differs (length cs) t (h .1)) (go (d .allows ragged))
-    where
-      go : (x : Bool) → T (x || true)
-      go true = tt
-      go false = tt
+  equal-rows [] h = rw (or-true (d .allows ragged)) tt
+  equal-rows (cs ∷ t) h = rw (none-differs (length cs) t (h .1), or-true (d .allows ragged)) tt
 
   rows-equal : d .allows ragged ≡ false → (t : Table) → EqualRows d t → None (λ cs. length cs ≡ widthOf t → ⊥) t
   unfolding EqualRows

@@ -21,7 +21,7 @@ last-above n [] u = omega arith
 last-above n (m ∷ ms) u = omega (arith, last-above m ms (u .1))
 
 -- the last number is at most what all are
-pub last-most : (b n : ℕ) (ms : List ℕ) → n ≤ b → ((i : ℕ) → getD ms i 0 ≤ b) → lastOf n ms ≤ b
+last-most : (b n : ℕ) (ms : List ℕ) → n ≤ b → ((i : ℕ) → getD ms i 0 ≤ b) → lastOf n ms ≤ b
 unfolding lastOf
 last-most b n [] h f = h
 last-most b n (m ∷ ms) h f = last-most b m ms (f 0) (λ i. f (suc i))
@@ -145,7 +145,7 @@ unfolding lastOf
 last-none n i ms h = rw (drop-of-length-le ms h)
 
 -- strictly rising numbers are no more than the last
-pub rising-count : (n : ℕ) (ms : List ℕ) → Ordered _<_ n ms → n + length ms ≤ lastOf n ms
+rising-count : (n : ℕ) (ms : List ℕ) → Ordered _<_ n ms → n + length ms ≤ lastOf n ms
 unfolding lastOf
 rising-count n [] r = omega arith
 rising-count n (m ∷ ms) r = omega (arith, rising-count m ms (r .1))
@@ -220,6 +220,16 @@ module _ {text : Bytes} {ends rows : List ℕ} (w : WellFormed text ends rows) w
 
   pub memory-fields : Every (λ cs. 1 ≤ length cs) (tableOf text ends rows)
   memory-fields = lengths-rise-back 0 (tableOf text ends rows) (rw (memory-back .2) (w .rows-rise))
+
+  -- where no entry is above b, there are no more bytes, fields and records than b
+  pub bytes-most : (b : ℕ) → ((i : ℕ) → getD ends i 0 ≤ b) → length text ≤ b
+  bytes-most b f = rw (← w .last-end) (last-most b 0 ends (omega arith) f)
+
+  pub fields-most : (b : ℕ) → ((i : ℕ) → getD rows i 0 ≤ b) → length ends ≤ b
+  fields-most b f = rw (← w .last-row) (last-most b 0 rows (omega arith) f)
+
+  pub records-most : (b : ℕ) → ((i : ℕ) → getD rows i 0 ≤ b) → length rows ≤ b
+  records-most b f = omega (arith, fields-most b f, w .last-row, rising-count 0 rows (w .rows-rise))
 
   -- a record's fields are among the ends, and a field's part is in the text
   pub row-within : (r : ℕ) → r < length rows → (startOf rows r ≤ getD rows r 0) × (getD rows r 0 ≤ length ends)

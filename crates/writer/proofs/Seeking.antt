@@ -5,7 +5,7 @@ use native.Mathlib.Omega.{arith}
 use mathlib.Core.Path.{_≡_, refl, ap, subst, _∙_}
 use mathlib.Core.Logic.{inl, inr, _↔_}
 use mathlib.Core.List.{List, [], _∷_, map}
-use lib.ListN.{length}
+use lib.ListN.{length, length-map}
 use Rattle.format.specs.Table.{None, First, here, later}
 use Rattle.writer.specs.Seek.{Sought}
 
@@ -57,8 +57,4 @@ module _ {A : Type 0} (P : ℕ → Type 0) where
 
   pub sought-lengths : (ls : List (List A)) (k : ℕ) → Sought P (map length ls) k → Sought (λ (l : List A). P (length l)) ls k
   sought-lengths ls k (inl x) = inl (first-lengths ls x)
-  sought-lengths ls k (inr (n, e)) = inr (none-lengths ls n, e ∙ count ls)
-    where
-      count : (ls : List (List A)) → length (map length ls) ≡ length ls
-      count [] = refl
-      count (l ∷ ls) = ap suc (count ls)
+  sought-lengths ls k (inr (n, e)) = inr (none-lengths ls n, e ∙ length-map ls length)

@@ -2,7 +2,7 @@
 use Prim.Native.Nat.{_+_, _-_, _≤_, _<_}
 use native.Mathlib.Omega.{arith}
 use lib.ListN.{length}
-use Rattle.format.proofs.Memory.{last-most}
+use Rattle.format.proofs.Memory.{fields-most}
 use Rattle.writer.proofs.Walking.{row-in, field-in, Adding, adding, added, sum-bound, adds-end, adds-more}
 use Rattle.writer.proofs.size.Statement.{statement}
 use Rattle.writer.proofs.size.Tie as tie
@@ -19,13 +19,7 @@ start l = l .before .before .before .before
 
 -- there are no more fields than a row can say
 few : (l : tie.At-loop Inv-loop μ-loop) → length (start l .args .ends .now) ≤ 4294967295
-few l =
-    let rows = l .before in
-    omega (
-      arith,
-      start l .pre .last-row,
-      last-most 4294967295 0 (start l .args .rows .now) (omega arith) (λ i. omega (arith, rows .shared-slice-known3 .given i)),
-    )
+few l = fields-most (start l .pre) 4294967295 (λ i. omega (arith, l .before .shared-slice-known3 .given i))
 
 loop-holds : tie.Need-loop-holds Inv-loop μ-loop
 loop-holds c = adding (c .before .before .before .pre)

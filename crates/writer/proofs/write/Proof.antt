@@ -5,7 +5,7 @@ use lib.ListN.{length}
 use denote.Ref.{now}
 use borrow.Author.Tests.{not-true, not-false}
 use Rattle.format.specs.Memory.{WellFormed}
-use Rattle.format.proofs.Memory.{last-most, rising-count, rising-never-falls}
+use Rattle.format.proofs.Memory.{bytes-most, fields-most, records-most, rising-never-falls}
 use Rattle.writer.specs.Write.{Outcome}
 use Rattle.writer.proofs.Outcomes.{by-3, by-9, by-10, held}
 use borrow.Author.Needs.{needs}
@@ -26,17 +26,17 @@ known e = omega (arith, e .before .before .if1 .left)
 few-bytes : (e : tie.Else2) → length (now (begin e .args .text)) ≤ 4294967295
 few-bytes e =
     let k = e .before .before .before .before .before in
-    omega
-    (arith, formed e .last-end, last-most 4294967295 0 (now (begin e .args .ends)) (omega arith) (λ i. omega (arith, k .shared-slice-known2 .given i)))
+    bytes-most (formed e) 4294967295 (λ i. omega (arith, k .shared-slice-known2 .given i))
 
 few-fields : (e : tie.Else2) → length (now (begin e .args .ends)) ≤ 4294967295
 few-fields e =
     let k = e .before .before .before .before in
-    omega
-    (arith, formed e .last-row, last-most 4294967295 0 (now (begin e .args .rows)) (omega arith) (λ i. omega (arith, k .shared-slice-known3 .given i)))
+    fields-most (formed e) 4294967295 (λ i. omega (arith, k .shared-slice-known3 .given i))
 
 few-records : (e : tie.Else2) → length (now (begin e .args .rows)) ≤ 4294967295
-few-records e = omega (arith, few-fields e, formed e .last-row, rising-count 0 (now (begin e .args .rows)) (formed e .rows-rise))
+few-records e =
+    let k = e .before .before .before .before in
+    records-most (formed e) 4294967295 (λ i. omega (arith, k .shared-slice-known3 .given i))
 
 returns : tie.Need-returns
 returns c = Outcome.refusal-1 (c .if1 .taken)
