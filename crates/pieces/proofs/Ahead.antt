@@ -187,7 +187,7 @@ module _ (x sum : ℕ) where
       (going x sum k u w y₀ here q st m h j z s)
       ≡ cond (leb m contentLimit)
       (cond (agrees (dialect x sum) (widthOf z) (suc j))
-      (going x sum start false (flagRecord l (some h) (not (even z (suc j))) v) y here q nx 0 0 0 (cond (eqb z 0) (suc j) z) (addRecord s m))
+      (going x sum start false (flagRecord l (some h) (not (even z (suc j))) v) y here (place 0 0 0) nx 0 0 0 (cond (eqb z 0) (suc j) z) (addRecord s m))
       (stopped 10 at (going x sum k u w y₀ here q st m h j z s)))
       (stopped 9 st (going x sum k u w y₀ here q st m h j z s))
   unfolding recordEnded opened
@@ -222,7 +222,7 @@ module _ (x sum : ℕ) (F : Bytes) (small : length F ≤ fileLimit) where
       (a b : Bool) (k : Form) (u : Bool) (w v v′ : Flags) (y₀ y : Bool) (here q : Place) (fr at : Bytes) (m h j z z′ : ℕ) (t t′ : Sums)
       → settledAnswer
       (cond a
-      (cond b (going x sum start false v′ y here q here 0 0 0 z′ t′) (stopped 10 (placeOf F at) (going x sum k u w y₀ here q (placeOf F fr) m h j z t)))
+      (cond b (going x sum start false v′ y here (place 0 0 0) here 0 0 0 z′ t′) (stopped 10 (placeOf F at) (going x sum k u w y₀ here q (placeOf F fr) m h j z t)))
       (stopped 9 (placeOf F fr) (going x sum k u w y₀ here q (placeOf F fr) m h j z t)))
       ≡ answer F y (cond a (cond b (sums t′ v′) (stop 10 at)) (stop 9 fr))
   unfolding settledAnswer totalled stopped
@@ -488,7 +488,7 @@ module _
     field-end-is :
         fieldEnded usage (placeOf F f) before
         ≡ cond (leb m contentLimit)
-        (going x sum start true (flagBlanks (some h) v) wide (placeOf F (b ∷ f)) q (placeOf F f) 0 0 (suc j) z (addField t m))
+        (going x sum start true (flagBlanks (some h) v) wide (placeOf F (b ∷ f)) (place 0 0 0) (placeOf F f) 0 0 (suc j) z (addField t m))
         (stopped 9 (placeOf F fr) before)
     unfolding fieldEnded opened before usage
     field-end-is =
@@ -506,9 +506,9 @@ module _
       where
         by :
             (e : Bool)
-            → inner (fedAll (placed (placeOf F f) (cond e (going x sum start true (flagBlanks (some h) v) wide (placeOf F (b ∷ f)) q (placeOf F f) 0 0 (suc j) z (addField t m)) (stopped 9 (placeOf F fr) before))) f)
+            → inner (fedAll (placed (placeOf F f) (cond e (going x sum start true (flagBlanks (some h) v) wide (placeOf F (b ∷ f)) (place 0 0 0) (placeOf F f) 0 0 (suc j) z (addField t m)) (stopped 9 (placeOf F fr) before))) f)
             ≡ says (cond e (goes d z (suc j) f 0 0 (addField t m) (flagBlanks (some h) v) (run d f start [])) (stop 9 fr))
-        by true = on start true (flagBlanks (some h) v) q [] f 0 0 (suc j) z (addField t m) tt within-field
+        by true = on start true (flagBlanks (some h) v) (place 0 0 0) [] f 0 0 (suc j) z (addField t m) tt within-field
         by false = halt 9 (placeOf F fr) before refl
 
     -- the end of a record: at a, by an LF alone or not
@@ -530,9 +530,9 @@ module _
       where
         by :
             (v′ : Flags) (z′ : ℕ) (x₀ y₀ : Bool)
-            → inner (fedAll (placed (placeOf F f) (cond x₀ (cond y₀ (going x sum start false v′ wide (placeOf F (b ∷ f)) q (placeOf F f) 0 0 0 z′ (addRecord t m)) (stopped 10 (placeOf F a) before)) (stopped 9 (placeOf F fr) before))) f)
+            → inner (fedAll (placed (placeOf F f) (cond x₀ (cond y₀ (going x sum start false v′ wide (placeOf F (b ∷ f)) (place 0 0 0) (placeOf F f) 0 0 0 z′ (addRecord t m)) (stopped 10 (placeOf F a) before)) (stopped 9 (placeOf F fr) before))) f)
             ≡ says (cond x₀ (cond y₀ (orFresh false f (addRecord t m) v′ (goes d z′ 0 f 0 0 (addRecord t m) v′ (run d f start []))) (stop 10 a)) (stop 9 fr))
-        by v′ z′ true true = on start false v′ q [] f 0 0 0 z′ (addRecord t m) tt within-record
+        by v′ z′ true true = on start false v′ (place 0 0 0) [] f 0 0 0 z′ (addRecord t m) tt within-record
         by v′ z′ true false = halt 10 (placeOf F a) before refl
         by v′ z′ false y₀ = halt 9 (placeOf F fr) before refl
 

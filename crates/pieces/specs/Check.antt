@@ -82,7 +82,7 @@ entered k p v x c =
       counts = c .counts;
     }
 
--- on to the start of a field, of the same record or of the next
+-- on to the start of a field, of the same record or of the next, where the mark names nothing
 unfoldable pub opened : ℕ → Used → Current → Counts → Check → Check
 opened u v x s c =
     record {
@@ -93,7 +93,7 @@ opened u v x s c =
       begun = u;
       used = v;
       here = c .here;
-      mark = c .mark;
+      mark = place 0 0 0;
       field = x;
       counts = s;
     }
@@ -226,6 +226,18 @@ fed c b =
 unfoldable pub fedAll : Check → Bytes → Check
 fedAll c [] = c
 fedAll c (b ∷ f) = fedAll (fed c b) f
+
+-- the place n bytes on, on the same line
+abbrev pub along : ℕ → Place → Place
+along n p = place (p .line .0) (plus (p .column .0) n) (plus (p .byte .0) n)
+
+-- the place n bytes on, behind l line feeds and t bytes behind the last of them
+unfoldable pub spot : ℕ → ℕ → ℕ → Place → Place
+spot l t n p = place (plus (p .line .0) l) (plus (cond (eqb l 0) (p .column .0) 1) t) (plus (p .byte .0) n)
+
+-- content of m bytes at once, and on to a form inside the field and to a place
+unfoldable pub jumped : ℕ → Place → ℕ → Check → Check
+jumped k p m c = placed p (entered k (c .mark) (c .used) (grown c (plus (plus (c .field .content) (c .field .held)) m) 0) c)
 
 -- the bit n of a leniency, if it was used
 abbrev pub bitIf : ℕ → ℕ → ℕ

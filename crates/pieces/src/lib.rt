@@ -3,13 +3,18 @@
 // The state goes in and comes back by value, and holds numbers alone, so that any bit pattern is a
 // state. specs/Check.antt says what a byte does to it and what it answers, for every state;
 // specs/Answers.antt what a state stands for, and so what the answers mean.
-ghost use Prim.Native.Nat.{min};
+ghost use Prim.Native.Nat.{_+_, _-_, _≤_, min};
+ghost use lib.ListN.{length};
 ghost use mathlib.Core.Path.{_≡_};
 ghost use Rattle.format.specs.Place.{place};
 ghost use Rattle.steps.specs.Model.{isValid};
 ghost use Rattle.steps.specs.Numbers.{stepTable};
 ghost use Rattle.pieces.specs.Answers.{Started, Fed, Asked};
-ghost use Rattle.pieces.specs.Check.{counterLimit, plus, moved, newField, started, stopped, entered, opened, placed, noting, onlyWide, noted, atEnd, oneField, asWide, oneRecord, fieldEnded, recordEnded, seenAt, grown, stepped, fed, fedAll, bitIf, totalled, settledAnswer, asked};
+ghost use Rattle.pieces.specs.Check.{counterLimit, plus, moved, newField, started, stopped, entered, opened, placed, noting, onlyWide, noted, atEnd, oneField, asWide, oneRecord, fieldEnded, recordEnded, seenAt, grown, stepped, fed, fedAll, along, spot, jumped, bitIf, totalled, settledAnswer, asked};
+ghost use Rattle.pieces.specs.Walk.{Leads, Still, Settled, Fresh, rowed, RowsAhead};
+ghost use Rattle.format.specs.Dialect.{dialect};
+ghost use Rattle.runs.specs.Runs.{isInner};
+ghost use Rattle.runs.specs.Words.{Marks, Stops};
 use format::Answer;
 use format::ByteOffset;
 use format::Column;
@@ -63,6 +68,19 @@ pub struct Check {
     pub counts: Counts,
 }
 
+// A state, and the place in a piece that it stands at.
+struct Reached {
+    at: usize,
+    check: Check,
+}
+
+// Records that are one jump: how many, where they end, and how many fields they have.
+struct Rows {
+    rows: usize,
+    end: usize,
+    fields: usize,
+}
+
 // One past the file limit, where counters stop.
 const COUNTER_LIMIT: u32 = 16777217;
 
@@ -94,6 +112,42 @@ fn moved(b: u8, p: Place) -> Place
         let column = Column(plus(p.column.0, 1));
         Place { line, column, byte }
     }
+}
+
+// A length as a counter.
+fn counted(n: usize) -> u32
+    ensures { λ r. ⌜ r ≡ min n counterLimit ⌝ }
+{
+    if n < 16777217 {
+        n as u32
+    } else {
+        COUNTER_LIMIT
+    }
+}
+
+// How far it is from a place to another, if that is further on.
+fn left(i: usize, e: usize) -> usize
+    ensures { λ r. ⌜ r ≡ e - i ⌝ }
+{
+    if i < e { e - i } else { 0 }
+}
+
+// The later of two places.
+fn later(i: usize, e: usize) -> usize
+    ensures { λ r. ⌜ r ≡ i + (e - i) ⌝ }
+{
+    if i < e { e } else { i }
+}
+
+// The place n bytes on, on the same line.
+fn along(n: usize, p: Place) -> Place
+    ensures { λ r. ⌜ r ≡ along n p ⌝ }
+{
+    let k = counted(n);
+    let line = p.line;
+    let column = Column(plus(p.column.0, k));
+    let byte = ByteOffset(plus(p.byte.0, k));
+    Place { line, column, byte }
 }
 
 // The place that names nothing.
@@ -244,18 +298,364 @@ impl Check {
         }
     }
 
-    // The state behind one more piece.
+    // The state behind one more piece: a byte, then as many as can be passed at once, and so on.
     pub fn feed(self, piece: &[u8]) -> Check
         ensures { λ r. ⌜ Fed self (now (piece .entry)) r ⌝ }
     {
         let t = steps::table();
+        let delimiter = self.delimiter;
+        let leniencies = self.leniencies;
+        let stops = runs::stop_table(delimiter, leniencies);
+        let inner = runs::inner_table();
         let mut c = self;
         let mut i = 0;
         while i < piece.len() {
-            c = c.take(&t, piece[i]);
-            i += 1;
+            let next = c.take(&t, piece[i]);
+            let r = next.passed(delimiter, leniencies, &stops, &inner, piece, i + 1);
+            c = r.check;
+            i = r.at;
         }
         c
+    }
+
+    // Passes the bytes from a place on that are one jump, none of them where there are none. The table
+    // is that of a dialect, which the state's should be.
+    fn passed(
+        self,
+        delimiter: u8,
+        leniencies: u8,
+        t: &[bool; 256],
+        inner: &[bool; 256],
+        s: &[u8],
+        at: usize,
+    ) -> Reached
+        requires { ⌜ at ≤ length (now s) ⌝ }
+        requires { ⌜ Stops (now t) (dialect delimiter leniencies) ⌝ }
+        requires { ⌜ Marks (now inner) isInner ⌝ }
+        ensures { λ r. ⌜ Leads self (now (s .entry)) at r ⌝ }
+    {
+        if self.refusal != 0 {
+            return Reached { at, check: self };
+        }
+        if self.begun == 0 {
+            if self.delimiter != delimiter {
+                return Reached { at, check: self };
+            }
+            if self.leniencies != leniencies {
+                return Reached { at, check: self };
+            }
+            return self.pass_rows(t, s, at);
+        }
+        if self.form <= 2 {
+            return self.pass_text(s, at);
+        }
+        if self.form != 3 {
+            return Reached { at, check: self };
+        }
+        if self.delimiter == 0x22 {
+            return self.pass_inner(s, at);
+        }
+        self.pass_inside(inner, s, at)
+    }
+
+    // Passes records of plain text, each as wide as the first.
+    fn pass_rows(self, t: &[bool; 256], s: &[u8], at: usize) -> Reached
+        requires { ⌜ at ≤ length (now s) ⌝ }
+        requires { ⌜ (self .refusal ≡ 0) × (self .begun ≡ 0) × Stops (now t) (dialect (self .delimiter) (self .leniencies)) ⌝ }
+        ensures { λ r. ⌜ Leads self (now (s .entry)) at r ⌝ }
+    {
+        if self.form != 0 {
+            return Reached { at, check: self };
+        }
+        if self.field.content != 0 {
+            return Reached { at, check: self };
+        }
+        if self.field.held != 0 {
+            return Reached { at, check: self };
+        }
+        if self.field.number.0 != 0 {
+            return Reached { at, check: self };
+        }
+        let r = self.rows_from(t, s, at);
+        if r.rows == 0 {
+            return self.pass_text(s, at);
+        }
+        let end = r.end;
+        let check = self.rowed(r.rows, end - at, r.fields);
+        Reached { at: end, check }
+    }
+
+    // Finds such records, by words that mark the bytes which are no plain text.
+    fn rows_from(self, t: &[bool; 256], s: &[u8], at: usize) -> Rows
+        requires { ⌜ at ≤ length (now s) ⌝ }
+        requires { ⌜ Fresh self × Stops (now t) (dialect (self .delimiter) (self .leniencies)) ⌝ }
+        ensures { λ r. ⌜ RowsAhead self (now (s .entry)) at r ⌝ }
+    {
+        let mut found = Rows {
+            rows: 0,
+            end: at,
+            fields: 0,
+        };
+        if self.delimiter == 0x0D {
+            return found;
+        }
+        if self.delimiter == 0x0A {
+            return found;
+        }
+        if COUNTER_LIMIT < self.counts.width {
+            return found;
+        }
+        let mut i = at;
+        let mut start = at;
+        let mut number = 0;
+        let mut fields = 0;
+        let mut rows = 0;
+        while 64 <= s.len() - i {
+            let e = i + 64;
+            let mut w = runs::marks_64(t, s, i);
+            while w != 0 {
+                let k = u64::trailing_zeros(w);
+                let p = i + (k as usize);
+                if 4096 < p - start {
+                    return found;
+                }
+                w = w >> k >> 1;
+                if s[p] == self.delimiter {
+                    i = p + 1;
+                    start = i;
+                    number += 1;
+                    fields += 1;
+                } else {
+                    if s[p] != 0x0D {
+                        return found;
+                    }
+                    if number + 1 != self.counts.width as usize {
+                        return found;
+                    }
+                    if s.len() - p < 2 {
+                        return found;
+                    }
+                    if s[p + 1] != 0x0A {
+                        return found;
+                    }
+                    w = w >> 1;
+                    i = p + 2;
+                    start = i;
+                    number = 0;
+                    fields += 1;
+                    rows += 1;
+                    found = Rows {
+                        rows,
+                        end: i,
+                        fields,
+                    };
+                }
+            }
+            i = later(i, e);
+        }
+        found
+    }
+
+    // Behind r records of n bytes with f fields.
+    fn rowed(self, r: usize, n: usize, f: usize) -> Check
+        requires { ⌜ f + r ≤ n ⌝ }
+        ensures { λ e. ⌜ (Fresh self → e ≡ rowed r n f self) ⌝ }
+    {
+        let line = Line(plus(self.here.line.0, counted(r)));
+        let column = Column(1);
+        let byte = ByteOffset(plus(self.here.byte.0, counted(n)));
+        let here = Place { line, column, byte };
+        let fields = FieldNumber(plus(self.counts.fields.0, counted(f)));
+        let counts = Counts {
+            records: plus(self.counts.records, counted(r)),
+            fields,
+            text: plus(self.counts.text, counted(n - f - r)),
+            width: self.counts.width,
+        };
+        let used = self.used;
+        let x = new_field(here, 0);
+        self.opened(0, used, x, counts).placed(here)
+    }
+
+    // Passes plain text outside quotes.
+    fn pass_text(self, s: &[u8], at: usize) -> Reached
+        requires { ⌜ at ≤ length (now s) ⌝ }
+        requires { ⌜ (self .refusal ≡ 0) × (self .form ≤ 2) ⌝ }
+        ensures { λ r. ⌜ Leads self (now (s .entry)) at r ⌝ }
+    {
+        let k = runs::text_run(self.delimiter, self.leniencies, s, at);
+        if k == 0 {
+            return Reached { at, check: self };
+        }
+        let here = self.here;
+        let check = self.jumped(2, along(k, here), k);
+        Reached { at: at + k, check }
+    }
+
+    // Passes bytes between quotes, up to a quote or a line's end.
+    fn pass_inner(self, s: &[u8], at: usize) -> Reached
+        requires { ⌜ at ≤ length (now s) ⌝ }
+        requires { ⌜ (self .refusal ≡ 0) × (self .form ≡ 3) ⌝ }
+        ensures { λ r. ⌜ Leads self (now (s .entry)) at r ⌝ }
+        ensures { λ r. ⌜ Still self (r .check) ⌝ }
+    {
+        let k = runs::inner_run(s, at);
+        if k == 0 {
+            return Reached { at, check: self };
+        }
+        let here = self.here;
+        let check = self.jumped(3, along(k, here), k);
+        Reached { at: at + k, check }
+    }
+
+    // Passes bytes, pairs of quotes and line feeds between quotes.
+    fn pass_inside(self, t: &[bool; 256], s: &[u8], at: usize) -> Reached
+        requires { ⌜ at ≤ length (now s) ⌝ }
+        requires { ⌜ (self .refusal ≡ 0) × (self .form ≡ 3) × (self .delimiter ≡ 0x22 → ⊥) × Marks (now t) isInner ⌝ }
+        ensures { λ r. ⌜ Leads self (now (s .entry)) at r ⌝ }
+    {
+        if self.begun != 1 {
+            return Reached { at, check: self };
+        }
+        if self.field.held != 0 {
+            return Reached { at, check: self };
+        }
+        if COUNTER_LIMIT < self.field.content {
+            return Reached { at, check: self };
+        }
+        if COUNTER_LIMIT < self.here.line.0 {
+            return Reached { at, check: self };
+        }
+        if COUNTER_LIMIT < self.here.column.0 {
+            return Reached { at, check: self };
+        }
+        if COUNTER_LIMIT < self.here.byte.0 {
+            return Reached { at, check: self };
+        }
+        if s.len() - at < 64 {
+            return self.pass_settled(s, at);
+        }
+        self.pass_marked(t, s, at)
+    }
+
+    // The same in blocks, by words that mark the bytes which are no such content.
+    fn pass_marked(self, t: &[bool; 256], s: &[u8], at: usize) -> Reached
+        requires { ⌜ at ≤ length (now s) ⌝ }
+        requires { ⌜ Settled self × Marks (now t) isInner ⌝ }
+        ensures { λ r. ⌜ Leads self (now (s .entry)) at r ⌝ }
+    {
+        let mut i = at;
+        let mut content = 0;
+        let mut lines = 0;
+        let mut tail = 0;
+        while 64 <= s.len() - i {
+            let q = runs::pair_run(s, i);
+            i += q + q;
+            content += q;
+            tail += q + q;
+            if s.len() - i < 64 {
+                let check = self.inside(lines, tail, i - at, content);
+                return Reached { at: i, check };
+            }
+            let e = i + 64;
+            let mut w = runs::marks_64(t, s, i);
+            while w != 0 {
+                let k = u64::trailing_zeros(w);
+                let n = k as usize;
+                let p = i + n;
+                w = w >> k >> 1;
+                if s[p] == 0x0A {
+                    i = p + 1;
+                    content += n + 1;
+                    lines += 1;
+                    tail = 0;
+                } else {
+                    if s[p] != 0x22 {
+                        let check = self.inside(lines, tail + n, p - at, content + n);
+                        return Reached { at: p, check };
+                    }
+                    if s.len() - p < 2 {
+                        let check = self.inside(lines, tail + n, p - at, content + n);
+                        return Reached { at: p, check };
+                    }
+                    if s[p + 1] != 0x22 {
+                        let check = self.inside(lines, tail + n, p - at, content + n);
+                        return Reached { at: p, check };
+                    }
+                    w = w >> 1;
+                    i = p + 2;
+                    content += n + 1;
+                    tail += n + 2;
+                }
+            }
+            let n = left(i, e);
+            i += n;
+            content += n;
+            tail += n;
+        }
+        let check = self.inside(lines, tail, i - at, content);
+        Reached { at: i, check }
+    }
+
+    // The same, in a state where that is one jump.
+    fn pass_settled(self, s: &[u8], at: usize) -> Reached
+        requires { ⌜ at ≤ length (now s) ⌝ }
+        requires { ⌜ Settled self ⌝ }
+        ensures { λ r. ⌜ Leads self (now (s .entry)) at r ⌝ }
+    {
+        let mut i = at;
+        let mut content = 0;
+        let mut lines = 0;
+        let mut tail = 0;
+        while i < s.len() {
+            if s[i] == 0x0A {
+                i += 1;
+                content += 1;
+                lines += 1;
+                tail = 0;
+            } else {
+                let k = runs::inner_run(s, i);
+                let p = i + k;
+                let q = runs::pair_run(s, p);
+                let n = k + (q + q);
+                if n == 0 {
+                    return Reached {
+                        at: i,
+                        check: self.inside(lines, tail, i - at, content),
+                    };
+                }
+                i += n;
+                content += k + q;
+                tail += n;
+            }
+        }
+        Reached {
+            at: i,
+            check: self.inside(lines, tail, i - at, content),
+        }
+    }
+
+    // Behind m bytes of content between quotes.
+    fn inside(self, lines: usize, tail: usize, bytes: usize, content: usize) -> Check
+        ensures { λ r. ⌜ r ≡ jumped 3 (spot lines tail bytes (self .here)) content self ⌝ }
+    {
+        let from = if lines == 0 { self.here.column.0 } else { 1 };
+        let line = Line(plus(self.here.line.0, counted(lines)));
+        let column = Column(plus(from, counted(tail)));
+        let byte = ByteOffset(plus(self.here.byte.0, counted(bytes)));
+        self.jumped(3, Place { line, column, byte }, content)
+    }
+
+    // Content of m bytes at once, and on to a form inside the field and to a place.
+    fn jumped(self, k: u8, p: Place, m: usize) -> Check
+        ensures { λ r. ⌜ r ≡ jumped k p m self ⌝ }
+    {
+        let mark = self.mark;
+        let used = self.used;
+        let field = self.field;
+        let content = plus(plus(field.content, field.held), counted(m));
+        self.entered(k, mark, used, self.grown(content, 0))
+            .placed(p)
     }
 
     // The answer for the bytes so far as one whole file. Asking changes nothing.
@@ -405,6 +805,8 @@ impl Check {
         c.used = v;
         c.field = x;
         c.counts = s;
+        let mark = nowhere();
+        c.mark = mark;
         c
     }
 

@@ -1,4 +1,7 @@
 pub mod Calls
+pub mod Copy
+pub mod Fields
 pub mod Flow
 pub mod Outcomes
+pub mod Quoted
 pub mod Walk

@@ -15,7 +15,7 @@ use Rattle.steps.specs.Numbers.{formOf}
 use Rattle.reader.specs.declared.Head.{Head}
 use Rattle.reader.specs.Fill.{textBy, endsBy, rowsBy, textLeft, endsLeft, rowsLeft, textIn, endsIn, rowsIn}
 use Rattle.format.specs.Filling.{over, Filling, Onward}
-use Rattle.reader.specs.Walk.{textAhead, endsAhead, rowsAhead, Counted, Before, Behind}
+use Rattle.reader.specs.Walk.{textAhead, endsAhead, rowsAhead, Counted, Before, Behind, Ready, Along}
 use Rattle.format.proofs.Filling.{meant, begin, move, room-at, push-equal}
 
 -- the byte at a place does a
@@ -134,6 +134,28 @@ module _ {d : Dialect} {f : Bytes} {text₀ ends₀ rows₀ text ends rows : Lis
 
   pub walks : {q : Head} {text′ ends′ rows′ : List ℕ} → Behind d f p text ends rows q text′ ends′ rows′ → On d f text₀ ends₀ rows₀ text′ ends′ rows′ q
   walks b =
+      record {
+        inside = b .inside;
+        counted = b .counted;
+        text-ahead = b .text-on _ (w .text-ahead);
+        ends-ahead = b .ends-on _ (w .ends-ahead);
+        rows-ahead = b .rows-on _ (w .rows-ahead);
+      }
+
+  -- the same for what is passed at once
+  pub ready : length f ≤ fileLimit → Ready d f p text ends rows
+  ready l =
+      record {
+        inside = w .inside;
+        limit = l;
+        counted = w .counted;
+        text-room = w .text-ahead .room;
+        ends-room = w .ends-ahead .room;
+        rows-room = w .rows-ahead .room;
+      }
+
+  pub walks-on : {q : Head} {text′ ends′ rows′ : List ℕ} → Along d f p text ends rows q text′ ends′ rows′ → On d f text₀ ends₀ rows₀ text′ ends′ rows′ q
+  walks-on b =
       record {
         inside = b .inside;
         counted = b .counted;

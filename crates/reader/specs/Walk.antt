@@ -1,5 +1,6 @@
 -- What the functions of the second walk promise one another, by the place that the walk has reached.
 use Prim.Native.Nat.{ℕ, _+_, _≤_, _<_}
+use mathlib.Core.Bool.{true}
 use mathlib.Core.List.{List}
 use lib.ListN.{length, drop}
 use Rattle.format.specs.Table.{Bytes}
@@ -42,3 +43,25 @@ pub record Behind (d : Dialect) (f : Bytes) (p : Head) (text ends rows : List �
   pub text-on : Onward text (p .text) (textAhead d f p) text′ (q .text) (textAhead d f q)
   pub ends-on : Onward ends (p .ends) (endsAhead d f p) ends′ (q .ends) (endsAhead d f q)
   pub rows-on : Onward rows (p .rows) (rowsAhead d f p) rows′ (q .rows) (rowsAhead d f q)
+
+-- at a place of the file, its end too: room for what is ahead
+pub record Ready (d : Dialect) (f : Bytes) (p : Head) (text ends rows : List ℕ) : Type 0 where
+  pub inside : p .at ≤ length f
+  pub limit : length f ≤ fileLimit
+  pub counted : Counted p
+  pub text-room : p .text + length (textAhead d f p) ≤ length text
+  pub ends-room : p .ends + length (endsAhead d f p) ≤ length ends
+  pub rows-room : p .rows + length (rowsAhead d f p) ≤ length rows
+
+-- as far or further on, and each buffer is to become what it was to become
+pub record Along (d : Dialect) (f : Bytes) (p : Head) (text ends rows : List ℕ) (q : Head) (text′ ends′ rows′ : List ℕ) : Type 0 where
+  pub on : p .at ≤ q .at
+  pub inside : q .at ≤ length f
+  pub counted : Counted q
+  pub text-on : Onward text (p .text) (textAhead d f p) text′ (q .text) (textAhead d f q)
+  pub ends-on : Onward ends (p .ends) (endsAhead d f p) ends′ (q .ends) (endsAhead d f q)
+  pub rows-on : Onward rows (p .rows) (rowsAhead d f p) rows′ (q .rows) (rowsAhead d f q)
+
+-- k bytes on between quotes
+abbrev pub inner : ℕ → Head → Head
+inner k p = record { at = p .at + k; form = 3; held = 0; text = p .text + k; ends = p .ends; rows = p .rows; begun = true }

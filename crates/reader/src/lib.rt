@@ -4,8 +4,8 @@
 // written, by a second walk that cannot fail. specs/Read.antt says what a read promises.
 ghost use mathlib.Core.Path.{_≡_};
 ghost use mathlib.Core.Bool.{true, false};
-ghost use Prim.Native.Nat.{_+_, _<_, _≤_};
-ghost use lib.ListN.{length, set, replicate};
+ghost use Prim.Native.Nat.{_+_, _-_, _<_, _≤_};
+ghost use lib.ListN.{length, set, replicate, take, drop};
 ghost use lib.Seq.{sets};
 ghost use Rattle.format.specs.Dialect.{lf, names, dialect, classOf};
 ghost use Rattle.format.specs.House.{fileLimit};
@@ -14,7 +14,9 @@ ghost use Rattle.steps.specs.Numbers.{formOf, stepTable, actOf};
 ghost use Rattle.reader.specs.Fill.{textIn, endsIn, rowsIn};
 ghost use Rattle.format.specs.Filling.{over};
 ghost use Rattle.reader.specs.Read.{Outcome};
-ghost use Rattle.reader.specs.Walk.{Before, Behind};
+ghost use Rattle.reader.specs.Walk.{Before, Behind, Ready, Along, inner};
+ghost use Rattle.runs.specs.Runs.{run, isInner};
+ghost use Rattle.runs.specs.Words.{Stops};
 ghost use Rattle.format.specs.declared.Answer.{the-variants.Taken, the-variants.Declined};
 ghost use Rattle.format.specs.Place.{place};
 ghost use Rattle.pieces.specs.Answers.{Answers};
@@ -129,6 +131,7 @@ fn fill(
     ensures { λ r. ⌜ now (rows .exit) ≡ over (rowsIn (dialect delimiter leniencies) (now (file .entry))) (now (rows .entry)) ⌝ }
 {
     let t = steps::table();
+    let stops = runs::stop_table(delimiter, leniencies);
     let mut p = Head {
         at: 0,
         form: 0,
@@ -140,11 +143,174 @@ fn fill(
     };
     while p.at < file.len() {
         p = take_byte(&t, file, delimiter, leniencies, p, text, ends, rows);
+        p = passed(&stops, file, delimiter, leniencies, p, text, ends, rows);
     }
     if p.begun {
         put_end(p, ends);
         put_row(p, rows);
     }
+}
+
+// Passes what can be written at once: bare fields, or bytes between quotes.
+fn passed(
+    stops: &[bool; 256],
+    file: &[u8],
+    delimiter: u8,
+    leniencies: u8,
+    p: Head,
+    text: &mut [u8],
+    ends: &mut [u32],
+    rows: &mut [u32],
+) -> Head
+    requires { ⌜ Stops (now stops) (dialect delimiter leniencies) ⌝ }
+    requires { ⌜ Ready (dialect delimiter leniencies) (now file) p (now text) (now ends) (now rows) ⌝ }
+    ensures { λ r. ⌜ Along (dialect delimiter leniencies) (now (file .entry)) p (now (text .entry)) (now (ends .entry)) (now (rows .entry)) r (now (text .exit)) (now (ends .exit)) (now (rows .exit)) ⌝ }
+{
+    if p.held != 0 {
+        return p;
+    }
+    let at = p.at;
+    if at == file.len() {
+        return p;
+    }
+    if p.form == 0 {
+        if file[at] == 0x22 {
+            return p;
+        }
+        if delimiter == 0x0A {
+            return p;
+        }
+        return pass_fields(stops, file, delimiter, leniencies, p, text, ends, rows);
+    }
+    if p.form != 3 {
+        return p;
+    }
+    if !runs::is_inner(file[at]) {
+        return p;
+    }
+    pass_inner(file, p, text)
+}
+
+// Copies bytes between quotes.
+fn pass_inner(file: &[u8], p: Head, text: &mut [u8]) -> Head
+    requires { ⌜ (p .at ≤ length (now file)) × (length (now file) ≤ fileLimit) ⌝ }
+    requires { ⌜ p .text + run isInner (drop (p .at) (now file)) ≤ length (now text) ⌝ }
+    ensures { λ r. ⌜ r ≡ inner (run isInner (drop (p .at) (now (file .entry)))) p ⌝ }
+    ensures { λ r. ⌜ now (text .exit) ≡ sets (now (text .entry)) (p .text) (take (run isInner (drop (p .at) (now (file .entry)))) (drop (p .at) (now (file .entry)))) ⌝ }
+{
+    let k = runs::inner_run(file, p.at);
+    let from = p.at;
+    let end = copied(file, from, k, text, p.text);
+    let at = from + k;
+    let begun = true;
+    Head {
+        at,
+        form: 3,
+        held: 0,
+        text: end,
+        ends: p.ends,
+        rows: p.rows,
+        begun,
+    }
+}
+
+// Writes bare fields of plain text from the start of one on, each copied where its end is found, by
+// words that mark the bytes which are no plain text.
+fn pass_fields(
+    stops: &[bool; 256],
+    file: &[u8],
+    delimiter: u8,
+    leniencies: u8,
+    p: Head,
+    text: &mut [u8],
+    ends: &mut [u32],
+    rows: &mut [u32],
+) -> Head
+    requires { ⌜ Stops (now stops) (dialect delimiter leniencies) ⌝ }
+    requires { ⌜ (p .form ≡ 0) × (p .held ≡ 0) × (delimiter ≡ 0x0A → ⊥) ⌝ }
+    requires { ⌜ Ready (dialect delimiter leniencies) (now file) p (now text) (now ends) (now rows) ⌝ }
+    ensures { λ r. ⌜ Along (dialect delimiter leniencies) (now (file .entry)) p (now (text .entry)) (now (ends .entry)) (now (rows .entry)) r (now (text .exit)) (now (ends .exit)) (now (rows .exit)) ⌝ }
+{
+    let mut i = p.at;
+    let mut start = p.at;
+    let mut n = p.text;
+    let mut m = p.ends;
+    let mut r = p.rows;
+    let mut begun = p.begun;
+    while 64 <= file.len() - i {
+        let e = i + 64;
+        let mut w = runs::marks_64(stops, file, i);
+        while w != 0 {
+            let k = u64::trailing_zeros(w);
+            let q = i + (k as usize);
+            w = w >> k >> 1;
+            if file[q] == delimiter {
+                n = copied(file, start, q - start, text, n);
+                ends[m] = n as u32;
+                m += 1;
+                i = q + 1;
+                start = i;
+                begun = true;
+            } else {
+                if file[q] != 0x0D {
+                    return field_start(p, start, n, m, r, begun);
+                }
+                if file.len() - q < 2 {
+                    return field_start(p, start, n, m, r, begun);
+                }
+                if file[q + 1] != 0x0A {
+                    return field_start(p, start, n, m, r, begun);
+                }
+                w = w >> 1;
+                n = copied(file, start, q - start, text, n);
+                ends[m] = n as u32;
+                m += 1;
+                rows[r] = m as u32;
+                r += 1;
+                i = q + 2;
+                start = i;
+                begun = false;
+            }
+        }
+        i = later(i, e);
+    }
+    field_start(p, start, n, m, r, begun)
+}
+
+// The start of a field at another place than p, which is one too.
+fn field_start(p: Head, at: usize, text: usize, ends: usize, rows: usize, begun: bool) -> Head
+    ensures { λ r. ⌜ r ≡ record { at = at; form = p .form; held = p .held; text = text; ends = ends; rows = rows; begun = begun } ⌝ }
+{
+    Head {
+        at,
+        form: p.form,
+        held: p.held,
+        text,
+        ends,
+        rows,
+        begun,
+    }
+}
+
+// The later of two places.
+fn later(i: usize, e: usize) -> usize
+    ensures { λ r. ⌜ r ≡ i + (e - i) ⌝ }
+{
+    if i < e { e } else { i }
+}
+
+// Copies so many bytes of the file to a place of the text, and says where they end there.
+fn copied(file: &[u8], from: usize, count: usize, text: &mut [u8], at: usize) -> usize
+    requires { ⌜ (from + count ≤ length (now file)) × (at + count ≤ length (now text)) ⌝ }
+    ensures { λ r. ⌜ r ≡ at + count ⌝ }
+    ensures { λ r. ⌜ now (text .exit) ≡ sets (now (text .entry)) at (take count (drop from (now (file .entry)))) ⌝ }
+{
+    let mut j = 0;
+    while j < count {
+        text[at + j] = file[from + j];
+        j += 1;
+    }
+    at + count
 }
 
 // Takes the byte at a place, and says where the walk is behind it. A refusal, which an accepted file

@@ -7,19 +7,19 @@ use lib.ListN.{length}
 use borrow.Author.Needs.{needs}
 use Rattle.format.specs.Dialect.{dialect}
 use Rattle.format.proofs.Filling.{room-at, same-size, push}
-use Rattle.reader.proofs.Walk.{On, sets-out, before, walks, last-text, last-ends, last-rows}
+use Rattle.reader.proofs.Walk.{On, sets-out, before, walks, ready, walks-on, last-text, last-ends, last-rows}
 use Rattle.reader.proofs.fill.Statement.{statement}
 use Rattle.reader.proofs.fill.Tie as tie
 
 abbrev Inv-loop : tie.InvT-loop
-Inv-loop file delimiter leniencies text₀ ends₀ rows₀ t p₀ text ends rows p = On (dialect delimiter leniencies) file text₀ ends₀ rows₀ text ends rows p
+Inv-loop file delimiter leniencies text₀ ends₀ rows₀ t stops p₀ text ends rows p = On (dialect delimiter leniencies) file text₀ ends₀ rows₀ text ends rows p
 
 abbrev μ-loop : tie.MeasureT-loop
-μ-loop file delimiter leniencies text₀ ends₀ rows₀ t p₀ text ends rows p = length file - p .at
+μ-loop file delimiter leniencies text₀ ends₀ rows₀ t stops p₀ text ends rows p = length file - p .at
 
 -- from a place of the code back to one before it
 abbrev start : tie.At-loop Inv-loop μ-loop → tie.Start Inv-loop μ-loop
-start l = l .before .before .before .before .before .before
+start l = l .before .before .before .before .before .before .before
 
 abbrev looped : tie.Then2 Inv-loop μ-loop → tie.At-loop Inv-loop μ-loop
 looped t = t .before .before .before
@@ -33,9 +33,12 @@ end-put r = r .before .before .before .before
 table-requires : tie.Need-table-requires Inv-loop μ-loop
 table-requires c κs = search needs
 
+stop-table-requires : tie.Need-stop-table-requires Inv-loop μ-loop
+stop-table-requires c κs = tt
+
 loop-holds : tie.Need-loop-holds Inv-loop μ-loop
 loop-holds c =
-    let pre = c .before .before .before .before .before .pre in
+    let pre = c .before .before .before .before .before .before .pre in
     sets-out (pre .1 .0) (pre .1 .1 .0) (pre .1 .1 .1)
 
 -- the buffers keep their lengths
@@ -53,17 +56,26 @@ take-byte-requires : tie.Need-take-byte-requires Inv-loop μ-loop
 take-byte-requires c κs =
     let i = c .before .before .before .before in
     let l = i .before .before in
-    (l .before .table .ensures, before (l .loop .inv) (i .if1 .taken) (start l .pre .0))
+    (l .before .before .table .ensures, before (l .loop .inv) (i .if1 .taken) (start l .pre .0))
+
+passed-requires : tie.Need-passed-requires Inv-loop μ-loop
+passed-requires c κs =
+    let k = c .before .before .before .before .before .before .before .before .before .before in
+    let l = c .before .before .before .before .before .before .before .before .before .before .before .before .before .before .before .before .before in
+    (l .before .stop-table .ensures, ready (walks (l .loop .inv) (k .take-byte .ensures)) (start l .pre .0))
 
 loop-less : tie.Need-loop-less Inv-loop μ-loop
 loop-less c =
-    let k = c .before .before .before .before .before .before in
-    omega (arith, k .take-byte .ensures .further, k .take-byte .ensures .inside)
+    let k = c .before .before .before .before .before .before .before .before .before .before .before .before .before .before .before .before .before in
+    let q = c .before .before .before .before .before .before in
+    omega (arith, k .take-byte .ensures .further, k .take-byte .ensures .inside, q .passed .ensures .on, q .passed .ensures .inside)
 
 loop-again : tie.Need-loop-again Inv-loop μ-loop
 loop-again c =
-    let k = c .before .before .before .before .before .before in
-    walks (k .before .before .before .before .before .before .before .loop .inv) (k .take-byte .ensures)
+    let k = c .before .before .before .before .before .before .before .before .before .before .before .before .before .before .before .before .before in
+    let q = c .before .before .before .before .before .before in
+    let l = c .before .before .before .before .before .before .before .before .before .before .before .before .before .before .before .before .before .before .before .before .before .before .before .before in
+    walks-on (walks (l .loop .inv) (k .take-byte .ensures)) (q .passed .ensures)
 
 put-end-requires : tie.Need-put-end-requires Inv-loop μ-loop
 put-end-requires c κs =
@@ -121,8 +133,10 @@ fill-spec =
     Inv-loop
     μ-loop
     table-requires
+    stop-table-requires
     loop-holds
     take-byte-requires
+    passed-requires
     loop-less
     loop-again
     put-end-requires

@@ -23,13 +23,19 @@ module _ (c : Check) (l : List ℕ) (i : ℕ) where
   fed-none h = rw (drop-of-length-le l h)
 
 abbrev Inv-loop : tie.InvT-loop
-Inv-loop piece t c₀ i₀ c i = (i ≤ length piece) × (fedAll c (drop i piece) ≡ fedAll c₀ piece)
+Inv-loop piece t delimiter leniencies stops inner c₀ i₀ c i = (i ≤ length piece) × (fedAll c (drop i piece) ≡ fedAll c₀ piece)
 
 abbrev μ-loop : tie.MeasureT-loop
-μ-loop piece t c₀ i₀ c i = length piece - i
+μ-loop piece t delimiter leniencies stops inner c₀ i₀ c i = length piece - i
 
 table-requires : tie.Need-table-requires Inv-loop μ-loop
 table-requires c κs = tt
+
+stop-table-requires : tie.Need-stop-table-requires Inv-loop μ-loop
+stop-table-requires c κs = tt
+
+inner-table-requires : tie.Need-inner-table-requires Inv-loop μ-loop
+inner-table-requires c κs = tt
 
 loop-holds : tie.Need-loop-holds Inv-loop μ-loop
 loop-holds c = (omega arith, refl)
@@ -38,20 +44,26 @@ shared-slice-read-take : tie.Need-shared-slice-read-take Inv-loop μ-loop
 shared-slice-read-take c = omega arith
 
 take-requires : tie.Need-take-requires Inv-loop μ-loop
-take-requires c κs = c .before .before .before .before .table .ensures
+take-requires c κs = c .before .before .before .before .before .before .table .ensures
 
-add-i : tie.Need-add-i Inv-loop μ-loop
-add-i c = omega arith
+add-passed : tie.Need-add-passed Inv-loop μ-loop
+add-passed c = omega arith
+
+passed-requires : tie.Need-passed-requires Inv-loop μ-loop
+passed-requires c κs = (omega arith, (c .before .before .before .before .before .before .before .before .stop-table .ensures, c .before .before .before .before .before .before .before .inner-table .ensures))
 
 loop-less : tie.Need-loop-less Inv-loop μ-loop
-loop-less c = omega arith
+loop-less c = omega (arith, c .before .passed .ensures .on, c .before .passed .ensures .within)
 
 loop-again : tie.Need-loop-again Inv-loop μ-loop
 loop-again c =
-    let a = c .before .before .before .before in
-    let piece = a .before .before .before .args .piece .now in (
-      omega arith,
-      ap (λ (x : Check). fedAll x (drop (a .loop .i + 1) piece)) (c .take .ensures)
+    let p = c .before in
+    let d = p .before .before .before in
+    let a = d .before .before .before .before in
+    let piece = a .before .before .before .before .before .args .piece .now in (
+      p .passed .ensures .within,
+      p .passed .ensures .same
+          ∙ ap (λ (x : Check). fedAll x (drop (a .loop .i + 1) piece)) (d .take .ensures)
           ∙ sym (fed-more (a .loop .c) piece (a .loop .i) (omega arith))
           ∙ a .loop .inv .1,
     )
@@ -67,10 +79,13 @@ feed-spec =
     Inv-loop
     μ-loop
     table-requires
+    stop-table-requires
+    inner-table-requires
     loop-holds
     shared-slice-read-take
     take-requires
-    add-i
+    add-passed
+    passed-requires
     loop-less
     loop-again
     returns)

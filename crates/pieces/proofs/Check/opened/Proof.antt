@@ -1,12 +1,14 @@
 -- `pieces::Check::opened` meets its contract.
-use mathlib.Core.Path.{refl}
 use Rattle.pieces.specs.Check.{opened}
 use Rattle.pieces.proofs.Check.opened.Statement.{statement}
 use Rattle.pieces.proofs.Check.opened.Tie as tie
 
+nowhere-requires : tie.Need-nowhere-requires
+nowhere-requires c κs = tt
+
 returns : tie.Need-returns
 unfolding opened
-returns c = refl
+returns c = rw (c .nowhere .ensures)
 
 pub opened-spec : {M : Type 1} → statement M
-opened-spec = tie.close (tie.spec returns)
+opened-spec = tie.close (tie.spec nowhere-requires returns)

@@ -1,0 +1,34 @@
+-- `pieces::Check::pass_text` meets its contract.
+use Rattle.pieces.proofs.Jumps.{text-within, text-leads}
+use native.Mathlib.Omega.{arith}
+use borrow.Author.Needs.{needs}
+use Rattle.pieces.proofs.Check.pass_text.Statement.{statement}
+use Rattle.pieces.proofs.Check.pass_text.Tie as tie
+
+text-run-requires : tie.Need-text-run-requires
+text-run-requires c κs = search needs
+
+returns : tie.Need-returns
+returns c = search needs
+
+along-requires : tie.Need-along-requires
+along-requires c κs = search needs
+
+jumped-requires : tie.Need-jumped-requires
+jumped-requires c κs = search needs
+
+add-t9 : tie.Need-add-t9
+add-t9 c =
+    let a = c .before .before .before .before .before .before in
+    omega (arith, text-within (a .args .self) (a .args .s .now) (a .args .at) (c .before .before .before .before .text-run .result) (a .pre .0) _ (c .before .before .before .before .text-run .ensures))
+
+returns-2 : tie.Need-returns-2
+returns-2 c =
+    let a = c .before .before .before .before .before .before in
+    let k = c .before .before .before .before in
+    rw (c .jumped .ensures, c .before .along .ensures)
+    (text-leads (a .args .self) (a .args .s .now) (a .args .at) (k .text-run .result) (a .pre .0) (c .before .before .before .if1 .left) (a .pre .1 .0) (a .pre .1 .1) (k .text-run .ensures))
+
+pub pass-text-spec : {M : Type 1} → statement M
+pass-text-spec =
+    tie.close (tie.spec text-run-requires returns along-requires jumped-requires add-t9 returns-2)

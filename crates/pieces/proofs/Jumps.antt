@@ -1,0 +1,430 @@
+-- Many bytes at once: what feeding a run of plain text, of bytes between quotes or of pairs of quotes comes to is one jump.
+use Prim.Native.Nat.{ℕ, zero, suc, _+_, _≤_, _<_, min}
+use native.Mathlib.Numerals.{add-one}
+use native.Mathlib.Omega.{arith}
+use mathlib.Core.Path.{_≡_, refl, sym, ap, _∙_}
+use mathlib.Core.Bool.{Bool, true, false, cond, not, _&&_, _||_, and-false, false≢true}
+use mathlib.Core.List.{[], _∷_}
+use mathlib.Core.Logic.{_⊎_, inl, inr}
+use lib.Seq.{drop-drop}
+use lib.Dec.{eqb, leb}
+use lib.ListN.{length, getD, drop, length-drop}
+use borrow.Author.Tests.{eqb-true, eqb-false, eq-eqb, ne-eqb, leb-true, le-leb, lt-leb}
+use Rattle.format.specs.declared.Place.{Place}
+use Rattle.format.specs.Table.{Bytes}
+use Rattle.format.specs.Dialect.{lf, blanks, bytes, names, Dialect, dialect, isWide, Class, text, blank, delimiter, quote, CR, LF, forbidden, classOf}
+use Rattle.format.specs.Place.{place}
+use Rattle.steps.specs.Steps.{Form, start, lead, bare, quoted, shut, tail, cr, stepOf}
+use Rattle.steps.specs.Numbers.{formNumber, classNumber, coded, stepTable, stepBy}
+use Rattle.steps.proofs.Rules.{step-is}
+use Rattle.runs.specs.Runs.{run, isText, isPlain, isInner, pairs}
+use Rattle.runs.proofs.Runs.{run-le, pairs-le}
+use Rattle.pieces.specs.declared.Check.{Check}
+use Rattle.pieces.specs.declared.Reached.{Reached}
+use Rattle.pieces.specs.Walk.{Leads, Still}
+use Rattle.pieces.specs.Check.{counterLimit, plus, moved, stopped, entered, placed, noting, onlyWide, noted, grown, stepped, fed, fedAll, along, jumped}
+
+-- a text byte's class
+pub plain-text : (d : Dialect) (b : ℕ) → isPlain d b ≡ true → (classOf d b ≡ text) × (isWide b ≡ false)
+unfolding isPlain
+plain-text d b = go (classOf d b) (isWide b)
+  where
+    go : (x : Class) (w : Bool) → (isText x && not w) ≡ true → (x ≡ text) × (w ≡ false)
+    go text false e = (refl, refl)
+    go text true e = absurd (false≢true e)
+    go blank w e = absurd (false≢true e)
+    go delimiter w e = absurd (false≢true e)
+    go quote w e = absurd (false≢true e)
+    go CR w e = absurd (false≢true e)
+    go LF w e = absurd (false≢true e)
+    go forbidden w e = absurd (false≢true e)
+
+lf-plain : (d : Dialect) → isPlain d 0x0A ≡ true → ⊥
+unfolding isPlain classOf
+lf-plain d = go (eqb 0x0A (d .delimiterByte))
+  where
+    go : (x : Bool) → (isText (cond x delimiter LF) && true) ≡ true → ⊥
+    go true e = false≢true e
+    go false e = false≢true e
+
+plain-lf : (d : Dialect) (b : ℕ) → isPlain d b ≡ true → eqb b 0x0A ≡ false
+plain-lf d b e = go (eqb b 0x0A) refl
+  where
+    go : (y : Bool) → eqb b 0x0A ≡ y → y ≡ false
+    go false q = refl
+    go true q = absurd (lf-plain d (rw (eqb-true b 0x0A q) at e))
+
+-- a byte that is no LF moves the place along
+pub moved-along : (b : ℕ) (p : Place) → eqb b 0x0A ≡ false → moved b p ≡ along 1 p
+unfolding moved
+moved-along b p e = rw e
+
+pub noted-none : (b : ℕ) (c : Check) → isWide b ≡ false → noted b c ≡ c .used
+unfolding noted
+noted-none b c e = rw e
+
+-- what a byte of a class does in a form
+pub fed-is :
+    (c : Check) (b : ℕ) (k : Form) (x : Class) → c .refusal ≡ 0 → c .form ≡ formNumber k → classOf (dialect (c .delimiter) (c .leniencies)) b ≡ x
+    → fed c b ≡ placed (moved b (c .here)) (stepped (coded (stepOf (names (c .leniencies) lf) k x)) (noted b c) (moved b (c .here)) c)
+unfolding fed
+fed-is c b k x r f e = rw (eq-eqb _ _ r, e, f, step-is)
+
+-- a byte of plain text outside quotes
+text-step :
+    (c : Check) (b : ℕ) (k : Form) → c .refusal ≡ 0 → c .form ≡ formNumber k → leb (formNumber k) 2 ≡ true
+    → isPlain (dialect (c .delimiter) (c .leniencies)) b ≡ true → fed c b ≡ jumped 2 (moved b (c .here)) 1 c
+unfolding stepOf stepped jumped
+text-step c b start r f l e = let t = plain-text (dialect (c .delimiter) (c .leniencies)) b e in rw (fed-is c b start text r f (t .0), noted-none b c (t .1))
+text-step c b lead r f l e = let t = plain-text (dialect (c .delimiter) (c .leniencies)) b e in rw (fed-is c b lead text r f (t .0), noted-none b c (t .1))
+text-step c b bare r f l e = let t = plain-text (dialect (c .delimiter) (c .leniencies)) b e in rw (fed-is c b bare text r f (t .0), noted-none b c (t .1))
+text-step c b quoted r f l e = absurd (false≢true l)
+text-step c b shut r f l e = absurd (false≢true l)
+text-step c b tail r f l e = absurd (false≢true l)
+text-step c b cr r f l e = absurd (false≢true l)
+
+-- a byte that is neither a quote nor forbidden is content between quotes
+abbrev pub isInside : Class → Bool
+isInside text = true
+isInside blank = true
+isInside delimiter = true
+isInside quote = false
+isInside CR = true
+isInside LF = true
+isInside forbidden = false
+
+inner-parts : (b : ℕ) → isInner b ≡ true → (b ≡ 0x0D) ⊎ ((0x20 ≤ b) × (b ≤ 0x7E) × (eqb b 0x22 ≡ false))
+unfolding isInner
+inner-parts b = go (eqb b 0x0D) (leb 0x20 b) (leb b 0x7E) (eqb b 0x22) refl refl refl refl
+  where
+    go :
+        (x y z w : Bool) → eqb b 0x0D ≡ x → leb 0x20 b ≡ y → leb b 0x7E ≡ z → eqb b 0x22 ≡ w
+        → (x || ((y && z) && not w)) ≡ true → (b ≡ 0x0D) ⊎ ((0x20 ≤ b) × (b ≤ 0x7E) × (eqb b 0x22 ≡ false))
+    go true y z w p q r s e = inl (eqb-true b 0x0D p)
+    go false true true false p q r s e = inr (leb-true 0x20 b q, leb-true b 0x7E r, s)
+    go false true true true p q r s e = absurd (false≢true e)
+    go false true false w p q r s e = absurd (false≢true e)
+    go false false z w p q r s e = absurd (false≢true e)
+
+pub inner-lf : (b : ℕ) → isInner b ≡ true → eqb b 0x0A ≡ false
+inner-lf b e = go (inner-parts b e)
+  where
+    go : (b ≡ 0x0D) ⊎ ((0x20 ≤ b) × (b ≤ 0x7E) × (eqb b 0x22 ≡ false)) → eqb b 0x0A ≡ false
+    go (inl q) = ne-eqb b 0x0A (λ r. omega arith)
+    go (inr q) = ne-eqb b 0x0A (λ r. omega arith)
+
+inner-wide : (b : ℕ) → isInner b ≡ true → isWide b ≡ false
+inner-wide b e = go (inner-parts b e)
+  where
+    go : (b ≡ 0x0D) ⊎ ((0x20 ≤ b) × (b ≤ 0x7E) × (eqb b 0x22 ≡ false)) → isWide b ≡ false
+    go (inl q) = rw (ne-eqb b 0x09 (λ r. omega arith), lt-leb 0x80 b (omega arith))
+    go (inr q) = rw (ne-eqb b 0x09 (λ r. omega arith), lt-leb 0x80 b (omega arith))
+
+pub inner-class : (d : Dialect) (b : ℕ) → isInner b ≡ true → isInside (classOf d b) ≡ true
+unfolding classOf
+inner-class d b e = go (inner-parts b e)
+  where
+    some : (x : Bool) → isInside (cond x delimiter CR) ≡ true
+    some true = refl
+    some false = refl
+
+    tests : (x v y z a : Bool) → isInside (cond x delimiter (cond v CR (cond y LF (cond z (cond a blank text) text)))) ≡ true
+    tests true v y z a = refl
+    tests false true y z a = refl
+    tests false false true z a = refl
+    tests false false false true true = refl
+    tests false false false true false = refl
+    tests false false false false a = refl
+
+    go : (b ≡ 0x0D) ⊎ ((0x20 ≤ b) × (b ≤ 0x7E) × (eqb b 0x22 ≡ false)) → isInside (classOf d b) ≡ true
+    go (inl q) = rw q (some (eqb 0x0D (d .delimiterByte)))
+    go (inr q) = rw (q .2) (printed (eqb b 0x20) refl)
+      where
+        printed : (z : Bool) → eqb b 0x20 ≡ z → isInside (cond (eqb b (d .delimiterByte)) delimiter (cond (eqb b 0x0D) CR (cond (eqb b 0x0A) LF (cond z (cond (d .allows blanks) blank text) (cond (leb 0x21 b && leb b 0x7E) text (cond (isWide b) (cond (d .allows bytes) text forbidden) forbidden)))))) ≡ true
+        printed true k = tests (eqb b (d .delimiterByte)) (eqb b 0x0D) (eqb b 0x0A) true (d .allows blanks)
+        printed false k =
+            let l : leb 0x21 b ≡ true = le-leb 0x21 b (omega (arith, eqb-false b 0x20 k)) in
+            rw (l, le-leb b 0x7E (q .1)) (tests (eqb b (d .delimiterByte)) (eqb b 0x0D) (eqb b 0x0A) false (d .allows blanks))
+
+-- a byte between quotes
+inner-step :
+    (c : Check) (b : ℕ) → c .refusal ≡ 0 → c .form ≡ 3 → isInner b ≡ true → fed c b ≡ jumped 3 (moved b (c .here)) 1 c
+unfolding stepOf stepped jumped
+inner-step c b r f e = go (classOf (dialect (c .delimiter) (c .leniencies)) b) refl (inner-class _ b e)
+  where
+    go :
+        (x : Class) → classOf (dialect (c .delimiter) (c .leniencies)) b ≡ x → isInside x ≡ true
+        → fed c b ≡ jumped 3 (moved b (c .here)) 1 c
+    go text q i = rw (fed-is c b quoted text r f q, noted-none b c (inner-wide b e))
+    go blank q i = rw (fed-is c b quoted blank r f q, noted-none b c (inner-wide b e))
+    go delimiter q i = rw (fed-is c b quoted delimiter r f q, noted-none b c (inner-wide b e))
+    go CR q i = rw (fed-is c b quoted CR r f q, noted-none b c (inner-wide b e))
+    go LF q i = rw (fed-is c b quoted LF r f q, noted-none b c (inner-wide b e))
+    go quote q i = absurd (false≢true i)
+    go forbidden q i = absurd (false≢true i)
+
+-- the sum of counters, without the stops on the way
+pub plus-is : (a b : ℕ) → plus a b ≡ min (a + b) counterLimit
+plus-is a b = omega arith
+
+stop-stop : (a b : ℕ) → min (min a counterLimit + b) counterLimit ≡ min (a + b) counterLimit
+stop-stop a b = omega arith
+
+pub plus-plus : (a m n : ℕ) → plus (plus a m) n ≡ plus a (m + n)
+plus-plus a m n =
+    let e : a + m + n ≡ a + (m + n) = omega arith in
+    plus-is (plus a m) n ∙ ap (λ (x : ℕ). min (x + n) counterLimit) (plus-is a m) ∙ stop-stop (a + m) n ∙ ap (λ (x : ℕ). min x counterLimit) e ∙ sym (plus-is a (m + n))
+
+pub plus-counted : (a n : ℕ) → plus a (min n counterLimit) ≡ plus a n
+plus-counted a n = omega arith
+
+-- two jumps are one
+pub jump-jump : (j k : ℕ) (p q : Place) (m n : ℕ) (c : Check) → jumped k p m (jumped j q n c) ≡ jumped k p (n + m) c
+unfolding jumped entered placed
+jump-jump j k p q m n c =
+    let a = plus (c .field .content) (c .field .held) in
+    let z : n + 0 ≡ n = omega arith in
+    let e : plus (plus (plus a n) 0) m ≡ plus a (n + m) = ap (λ (x : ℕ). plus x m) (plus-plus a n 0) ∙ plus-plus a (n + 0) m ∙ ap (λ (x : ℕ). plus a (x + m)) z in
+    rw e
+
+pub along-along : (m n : ℕ) (p : Place) → along n (along m p) ≡ along (m + n) p
+along-along m n p = rw (plus-plus (p .column .0) m n, plus-plus (p .byte .0) m n)
+
+quote-class : (d : Dialect) → (d .delimiterByte ≡ 0x22 → ⊥) → classOf d 0x22 ≡ quote
+unfolding classOf
+quote-class d e = rw (ne-eqb 0x22 (d .delimiterByte) (λ q. e (sym q)))
+
+-- a quote that may be the first of a pair, and the second behind it
+shut-step : (c : Check) → c .refusal ≡ 0 → c .form ≡ 3 → (c .delimiter ≡ 0x22 → ⊥) → fed c 0x22 ≡ placed (along 1 (c .here)) (entered 4 (c .mark) (c .used) (c .field) c)
+unfolding stepOf stepped moved
+shut-step c r f d = rw (fed-is c 0x22 quoted quote r f (quote-class (dialect (c .delimiter) (c .leniencies)) d), noted-none 0x22 c refl)
+
+pair-step : (c : Check) → c .refusal ≡ 0 → c .form ≡ 3 → (c .delimiter ≡ 0x22 → ⊥) → fed (fed c 0x22) 0x22 ≡ jumped 3 (along 2 (c .here)) 1 c
+unfolding stepOf stepped jumped entered placed moved
+pair-step c r f d =
+    let e = placed (along 1 (c .here)) (entered 4 (c .mark) (c .used) (c .field) c) in
+    let p : plus (plus (c .here .column .0) 1) 1 ≡ plus (c .here .column .0) 2 = omega arith in
+    let q : plus (plus (c .here .byte .0) 1) 1 ≡ plus (c .here .byte .0) 2 = omega arith in
+    rw (shut-step c r f d, fed-is e 0x22 shut quote r refl (quote-class (dialect (c .delimiter) (c .leniencies)) d), noted-none 0x22 e refl, p, q)
+
+-- a run of bytes of which each is one jump is one jump
+module _
+    (j : ℕ) (P : ℕ → Bool) (Ok : Check → Type 0)
+    (step : (c : Check) → Ok c → (b : ℕ) → P b ≡ true → fed c b ≡ jumped j (along 1 (c .here)) 1 c)
+    (keep : (c : Check) (p : Place) (m : ℕ) → Ok c → Ok (jumped j p m c))
+  where
+    here-is : (p : Place) (m : ℕ) (c : Check) → (jumped j p m c) .here ≡ p
+    unfolding jumped placed
+    here-is p m c = refl
+
+    abbrev Leaps : Bytes → Type 0
+    Leaps g = (k : ℕ) (c : Check) → Ok c → suc k ≤ run P g → fedAll c g ≡ fedAll (jumped j (along (suc k) (c .here)) (suc k) c) (drop (suc k) g)
+
+    module _ (b : ℕ) (f : Bytes) (ih : Leaps f) (c : Check) (i : Ok c) where
+      more : (k : ℕ) → P b ≡ true → k ≤ run P f → fedAll (fed c b) f ≡ fedAll (jumped j (along (suc k) (c .here)) (suc k) c) (drop k f)
+      more zero e l = ap (λ (c : Check). fedAll c f) (step c i b e)
+      more (suc n) e l =
+          let c′ = jumped j (along 1 (c .here)) 1 c in
+          let z : 1 + suc n ≡ suc (suc n) = omega arith in
+          ap (λ (c : Check). fedAll c f) (step c i b e)
+          ∙ ih n c′ (keep c (along 1 (c .here)) 1 i) l
+          ∙ ap (λ (p : Place). fedAll (jumped j (along (suc n) p) (suc n) c′) (drop (suc n) f)) (here-is (along 1 (c .here)) 1 c)
+          ∙ ap (λ (c : Check). fedAll c (drop (suc n) f)) (jump-jump j j (along (suc n) (along 1 (c .here))) (along 1 (c .here)) (suc n) 1 c)
+          ∙ ap (λ (p : Place). fedAll (jumped j p (1 + suc n) c) (drop (suc n) f)) (along-along 1 (suc n) (c .here))
+          ∙ ap (λ (x : ℕ). fedAll (jumped j (along x (c .here)) x c) (drop (suc n) f)) z
+
+      first : (k : ℕ) (x : Bool) → P b ≡ x → suc k ≤ cond x (suc (run P f)) 0 → fedAll (fed c b) f ≡ fedAll (jumped j (along (suc k) (c .here)) (suc k) c) (drop k f)
+      first k true e l = more k e (omega arith)
+      first k false e l = absurd (omega arith)
+
+    leap : (g : Bytes) → Leaps g
+    unfolding fedAll run
+    leap [] k c i h = absurd (omega arith)
+    leap (b ∷ f) k c i h = first b f (leap f) c i k (P b) refl h
+
+-- text outside quotes
+record Outside (x sum : ℕ) (c : Check) : Type 0 where
+  refusal : c .refusal ≡ 0
+  form : c .form ≤ 2
+  delimiter : c .delimiter ≡ x
+  leniencies : c .leniencies ≡ sum
+
+module _ (x sum : ℕ) where
+  outside-step :
+      (c : Check) → Outside x sum c → (b : ℕ) → isPlain (dialect x sum) b ≡ true → fed c b ≡ jumped 2 (along 1 (c .here)) 1 c
+  outside-step c o b e =
+      let e′ : isPlain (dialect (c .delimiter) (c .leniencies)) b ≡ true = rw (o .delimiter, o .leniencies) e in
+      by-form (c .form) refl (o .form) e′
+      ∙ ap (λ (p : Place). jumped 2 p 1 c) (moved-along b (c .here) (plain-lf (dialect x sum) b e))
+    where
+      by-form : (n : ℕ) → c .form ≡ n → n ≤ 2 → isPlain (dialect (c .delimiter) (c .leniencies)) b ≡ true → fed c b ≡ jumped 2 (moved b (c .here)) 1 c
+      by-form zero f l i = text-step c b start (o .refusal) f refl i
+      by-form (suc zero) f l i = text-step c b lead (o .refusal) f refl i
+      by-form (suc (suc zero)) f l i = text-step c b bare (o .refusal) f refl i
+      by-form (suc (suc (suc n))) f l i = absurd (omega arith)
+
+  outside-keep : (c : Check) (p : Place) (m : ℕ) → Outside x sum c → Outside x sum (jumped 2 p m c)
+  unfolding jumped placed entered
+  outside-keep c p m o = record { refusal = o .refusal; form = omega arith; delimiter = o .delimiter; leniencies = o .leniencies }
+
+-- between quotes
+record Between (c : Check) : Type 0 where
+  refusal : c .refusal ≡ 0
+  form : c .form ≡ 3
+
+between-step : (c : Check) → Between c → (b : ℕ) → isInner b ≡ true → fed c b ≡ jumped 3 (along 1 (c .here)) 1 c
+between-step c o b e = inner-step c b (o .refusal) (o .form) e ∙ ap (λ (p : Place). jumped 3 p 1 c) (moved-along b (c .here) (inner-lf b e))
+
+between-keep : (c : Check) (p : Place) (m : ℕ) → Between c → Between (jumped 3 p m c)
+unfolding jumped placed entered
+between-keep c p m o = record { refusal = o .refusal; form = refl }
+
+-- the same from a place in a piece
+module _ (s : Bytes) (i k : ℕ) (c : Check) (some : 0 < k) where
+  pub text-leap :
+      c .refusal ≡ 0 → c .form ≤ 2 → k ≤ run (isPlain (dialect (c .delimiter) (c .leniencies))) (drop i s)
+      → fedAll (jumped 2 (along k (c .here)) k c) (drop (i + k) s) ≡ fedAll c (drop i s)
+  text-leap r f h = go k some h
+    where
+      go :
+          (k : ℕ) → 0 < k → k ≤ run (isPlain (dialect (c .delimiter) (c .leniencies))) (drop i s)
+          → fedAll (jumped 2 (along k (c .here)) k c) (drop (i + k) s) ≡ fedAll c (drop i s)
+      go zero l h = absurd (omega arith)
+      go (suc k) l h =
+          rw (← drop-drop (suc k) i s)
+          (sym
+          (leap 2 (isPlain (dialect (c .delimiter) (c .leniencies))) (Outside (c .delimiter) (c .leniencies))
+          (outside-step (c .delimiter) (c .leniencies)) (outside-keep (c .delimiter) (c .leniencies)) (drop i s) k c
+          (record { refusal = r; form = f; delimiter = refl; leniencies = refl }) h))
+
+  pub inner-leap :
+      c .refusal ≡ 0 → c .form ≡ 3 → k ≤ run isInner (drop i s)
+      → fedAll (jumped 3 (along k (c .here)) k c) (drop (i + k) s) ≡ fedAll c (drop i s)
+  inner-leap r f h = go k some h
+    where
+      go : (k : ℕ) → 0 < k → k ≤ run isInner (drop i s) → fedAll (jumped 3 (along k (c .here)) k c) (drop (i + k) s) ≡ fedAll c (drop i s)
+      go zero l h = absurd (omega arith)
+      go (suc k) l h =
+          rw (← drop-drop (suc k) i s) (sym (leap 3 isInner Between between-step between-keep (drop i s) k c (record { refusal = r; form = f }) h))
+
+-- pairs of quotes
+record Paired (x : ℕ) (c : Check) : Type 0 where
+  refusal : c .refusal ≡ 0
+  form : c .form ≡ 3
+  delimiter : c .delimiter ≡ x
+
+paired-keep : (x : ℕ) (c : Check) (p : Place) (m : ℕ) → Paired x c → Paired x (jumped 3 p m c)
+unfolding jumped placed entered
+paired-keep x c p m o = record { refusal = o .refusal; form = refl; delimiter = o .delimiter }
+
+jumped-here : (k : ℕ) (p : Place) (m : ℕ) (c : Check) → (jumped k p m c) .here ≡ p
+unfolding jumped placed
+jumped-here k p m c = refl
+
+module _ (x : ℕ) (other : x ≡ 0x22 → ⊥) where
+  abbrev LeapsPairs : Bytes → Type 0
+  LeapsPairs g = (k : ℕ) (c : Check) → Paired x c → suc k ≤ pairs g → fedAll c g ≡ fedAll (jumped 3 (along (suc k + suc k) (c .here)) (suc k) c) (drop (suc k + suc k) g)
+
+  module _ (f : Bytes) (ih : LeapsPairs f) (c : Check) (o : Paired x c) where
+    first-pair : fed (fed c 0x22) 0x22 ≡ jumped 3 (along 2 (c .here)) 1 c
+    first-pair = pair-step c (o .refusal) (o .form) (λ e. other (sym (o .delimiter) ∙ e))
+
+    more-pairs : (k : ℕ) → k ≤ pairs f → fedAll (fed (fed c 0x22) 0x22) f ≡ fedAll (jumped 3 (along (suc k + suc k) (c .here)) (suc k) c) (drop (k + k) f)
+    more-pairs zero l =
+        ap (λ (c : Check). fedAll c f) first-pair
+    more-pairs (suc n) l =
+        let c′ = jumped 3 (along 2 (c .here)) 1 c in
+        let z : 1 + suc n ≡ suc (suc n) = omega arith in
+        let y : 2 + (suc n + suc n) ≡ suc (suc n) + suc (suc n) = omega arith in
+        ap (λ (c : Check). fedAll c f) first-pair
+        ∙ ih n c′ (paired-keep x c (along 2 (c .here)) 1 o) l
+        ∙ ap (λ (p : Place). fedAll (jumped 3 (along (suc n + suc n) p) (suc n) c′) (drop (suc n + suc n) f)) (jumped-here 3 (along 2 (c .here)) 1 c)
+        ∙ ap (λ (c : Check). fedAll c (drop (suc n + suc n) f)) (jump-jump 3 3 (along (suc n + suc n) (along 2 (c .here))) (along 2 (c .here)) (suc n) 1 c)
+        ∙ ap (λ (p : Place). fedAll (jumped 3 p (1 + suc n) c) (drop (suc n + suc n) f)) (along-along 2 (suc n + suc n) (c .here))
+        ∙ ap (λ (m : ℕ). fedAll (jumped 3 (along m (c .here)) (1 + suc n) c) (drop (suc n + suc n) f)) y
+        ∙ ap (λ (m : ℕ). fedAll (jumped 3 (along (suc (suc n) + suc (suc n)) (c .here)) m c) (drop (suc n + suc n) f)) z
+
+  module _ (a b : ℕ) (f : Bytes) (ih : LeapsPairs f) (k : ℕ) (c : Check) (o : Paired x c) where
+    two : suc k + suc k ≡ suc (suc (k + k))
+    two = omega arith
+
+    one-pair :
+        (u v : Bool) → eqb a 0x22 ≡ u → eqb b 0x22 ≡ v → suc k ≤ cond (u && v) (suc (pairs f)) 0
+        → fedAll (fed (fed c a) b) f ≡ fedAll (jumped 3 (along (suc k + suc k) (c .here)) (suc k) c) (drop (suc k + suc k) (a ∷ (b ∷ f)))
+    one-pair true true p q l =
+        rw (eqb-true a 0x22 p, eqb-true b 0x22 q)
+        (more-pairs f ih c o k (omega arith)
+        ∙ ap (λ (n : ℕ). fedAll (jumped 3 (along (suc k + suc k) (c .here)) (suc k) c) (drop n (0x22 ∷ (0x22 ∷ f)))) (sym two))
+    one-pair true false p q l = absurd (omega arith)
+    one-pair false v p q l = absurd (omega arith)
+
+  leap-pairs : (g : Bytes) → LeapsPairs g
+  unfolding fedAll pairs
+  leap-pairs [] k c o h = absurd (omega arith)
+  leap-pairs (a ∷ []) k c o h = absurd (omega arith)
+  leap-pairs (a ∷ (b ∷ f)) k c o h = one-pair a b f (leap-pairs f) k c o (eqb a 0x22) (eqb b 0x22) refl refl h
+
+pub pairs-leap :
+    (s : Bytes) (i k : ℕ) (c : Check) → 0 < k → c .refusal ≡ 0 → c .form ≡ 3 → (c .delimiter ≡ 0x22 → ⊥) → k ≤ pairs (drop i s)
+    → fedAll (jumped 3 (along (k + k) (c .here)) k c) (drop (i + (k + k)) s) ≡ fedAll c (drop i s)
+pairs-leap s i zero c l r f d h = absurd (omega arith)
+pairs-leap s i (suc k) c l r f d h =
+    rw (← drop-drop (suc k + suc k) i s) (sym (leap-pairs (c .delimiter) d (drop i s) k c (record { refusal = r; form = f; delimiter = refl }) h))
+
+-- what is reached by such a jump
+module _ (c : Check) (s : Bytes) (i k : ℕ) (inside : i ≤ length s) where
+  pub text-within : (P : ℕ → Bool) → k ≡ run P (drop i s) → i + k ≤ length s
+  text-within P e = omega (arith, run-le P (drop i s), length-drop i s)
+
+  pub pairs-within : k ≡ pairs (drop i s) → i + (k + k) ≤ length s
+  pairs-within e = omega (arith, pairs-le (drop i s), length-drop i s)
+
+  module _ (some : k ≡ 0 → ⊥) (r : c .refusal ≡ 0) where
+    more-than-none : 0 < k
+    more-than-none = omega arith
+
+    pub text-leads :
+        c .form ≤ 2 → k ≡ run (isPlain (dialect (c .delimiter) (c .leniencies))) (drop i s)
+        → Leads c s i (record { at = i + k; check = jumped 2 (along k (c .here)) k c })
+    text-leads f e =
+        record {
+          on = omega arith;
+          within = text-within _ e;
+          same = text-leap s i k c more-than-none r f (omega arith);
+        }
+
+    pub inner-leads :
+        c .form ≡ 3 → k ≡ run isInner (drop i s)
+        → Leads c s i (record { at = i + k; check = jumped 3 (along k (c .here)) k c }) × Still c (jumped 3 (along k (c .here)) k c)
+    unfolding jumped placed entered
+    inner-leads f e = (
+      record {
+        on = omega arith;
+        within = text-within _ e;
+        same = inner-leap s i k c more-than-none r f (omega arith);
+      },
+      record { refusal = r; form = refl; delimiter = refl },
+    )
+
+    pub pairs-leads :
+        c .form ≡ 3 → (c .delimiter ≡ 0x22 → ⊥) → k ≡ pairs (drop i s)
+        → Leads c s i (record { at = i + (k + k); check = jumped 3 (along (k + k) (c .here)) k c }) × Still c (jumped 3 (along (k + k) (c .here)) k c)
+    unfolding jumped placed entered
+    pairs-leads f d e = (
+      record {
+        on = omega arith;
+        within = pairs-within e;
+        same = pairs-leap s i k c more-than-none r f d (omega arith);
+      },
+      record { refusal = r; form = refl; delimiter = refl },
+    )
+
+pub leads-none : (c : Check) (s : Bytes) (i : ℕ) → i ≤ length s → Leads c s i (record { at = i; check = c })
+leads-none c s i h = record { on = omega arith; within = h; same = refl }
+
+-- one after the other
+pub leads-on : (c : Check) (s : Bytes) (i : ℕ) (q r : Reached) → Leads c s i q → Leads (q .check) s (q .at) r → Leads c s i r
+leads-on c s i q r g h = record { on = omega (arith, g .on, h .on); within = h .within; same = h .same ∙ g .same }
+
+pub still-on : (c d e : Check) → Still c d → Still d e → Still c e
+still-on c d e g h = record { refusal = h .refusal; form = h .form; delimiter = h .delimiter ∙ g .delimiter }

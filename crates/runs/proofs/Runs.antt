@@ -1,0 +1,157 @@
+-- A run, one byte or one block at a time.
+use Prim.Native.Nat.{ℕ, zero, suc, _+_, _-_, _≤_, _<_}
+use native.Mathlib.Numerals.{add-one}
+use native.Mathlib.Omega.{arith}
+use mathlib.Core.Path.{_≡_, refl, sym, ap, _∙_}
+use mathlib.Core.Bool.{Bool, true, false, cond, _&&_, and-false, false≢true}
+use mathlib.Core.List.{[], _∷_}
+use lib.ListN.{length, getD, drop, drop-of-length-le, length-drop}
+use borrow.Author.Tests.{ne-eqb}
+use lib.Dec.{eqb}
+use lib.Seq.{drop-cons}
+use Rattle.format.specs.Table.{Bytes}
+use Rattle.runs.specs.Runs.{run, pairs}
+
+module _ (p : ℕ → Bool) where
+  pub run-more : (s : Bytes) (i : ℕ) → i < length s → p (getD s i 0) ≡ true → run p (drop i s) ≡ suc (run p (drop (i + 1) s))
+  unfolding run
+  run-more s i h e = rw (add-one, drop-cons s i 0, e)
+
+  pub run-stops : (s : Bytes) (i : ℕ) → i < length s → p (getD s i 0) ≡ false → run p (drop i s) ≡ 0
+  unfolding run
+  run-stops s i h e = rw (drop-cons s i 0, e)
+
+  pub run-none : (s : Bytes) (i : ℕ) → length s ≤ i → run p (drop i s) ≡ 0
+  unfolding run
+  run-none s i h = rw (drop-of-length-le s h)
+
+  -- a block, whose bytes all have the property
+  pub run-skip :
+      (n : ℕ) (s : Bytes) (i : ℕ) → i + n ≤ length s → ((k : ℕ) → k < n → p (getD s (i + k) 0) ≡ true) → run p (drop i s) ≡ n + run p (drop (i + n) s)
+  run-skip zero s i h f =
+      let e : i ≡ i + 0 = omega arith in
+      omega (arith, ap (λ (j : ℕ). run p (drop j s)) e)
+  run-skip (suc n) s i h f =
+      let e : i + 0 ≡ i = omega arith in
+      let first : p (getD s i 0) ≡ true = rw e at (f 0 (omega arith)) in
+      let later : (k : ℕ) → k < n → p (getD s (i + 1 + k) 0) ≡ true = λ k q. rw (turn k) (f (suc k) (omega arith)) in
+      let rest : i + 1 + n ≡ i + suc n = omega arith in
+      omega (arith, run-more s i (omega arith) first, run-skip n s (i + 1) (omega arith) later, ap (λ (j : ℕ). run p (drop j s)) rest)
+    where
+      turn : (k : ℕ) → i + 1 + k ≡ i + suc k
+      turn k = omega arith
+
+pub run-le : (p : ℕ → Bool) (f : Bytes) → run p f ≤ length f
+unfolding run
+run-le p [] = omega arith
+run-le p (b ∷ f) = go (p b) (run-le p f)
+  where
+    go : (x : Bool) → run p f ≤ length f → cond x (suc (run p f)) 0 ≤ suc (length f)
+    go true h = omega arith
+    go false h = omega arith
+
+pub pairs-le : (f : Bytes) → pairs f + pairs f ≤ length f
+unfolding pairs
+pairs-le [] = omega arith
+pairs-le (a ∷ []) = omega arith
+pairs-le (a ∷ (b ∷ f)) = go (eqb a 0x22 && eqb b 0x22) (pairs-le f)
+  where
+    go : (x : Bool) → pairs f + pairs f ≤ length f → cond x (suc (pairs f)) 0 + cond x (suc (pairs f)) 0 ≤ suc (suc (length f))
+    go true h = omega arith
+    go false h = omega arith
+
+-- a walk from a place stands at i: what is passed and the run that is left come to the whole run
+abbrev pub Passed : (ℕ → Bool) → Bytes → ℕ → ℕ → Type 0
+Passed p s from i = (from ≤ i) × (i - from + run p (drop i s) ≡ run p (drop from s))
+
+module _ (p : ℕ → Bool) (s : Bytes) (from i : ℕ) where
+  pub passed-more : Passed p s from i → i < length s → p (getD s i 0) ≡ true → Passed p s from (i + 1)
+  passed-more h l e = (omega arith, omega (arith, run-more p s i l e))
+
+  pub passed-block : (n : ℕ) → Passed p s from i → i + n ≤ length s → ((k : ℕ) → k < n → p (getD s (i + k) 0) ≡ true) → Passed p s from (i + n)
+  passed-block n h l e = (omega arith, omega (arith, run-skip p n s i l e))
+
+  pub passed-stops : Passed p s from i → i < length s → p (getD s i 0) ≡ false → i - from ≡ run p (drop from s)
+  passed-stops h l e = omega (arith, run-stops p s i l e)
+
+  pub passed-end : Passed p s from i → length s ≤ i → i - from ≡ run p (drop from s)
+  passed-end h l = omega (arith, run-none p s i l)
+
+-- the pairs from a place on
+pub pairs-more : (s : Bytes) (i : ℕ) → i + 2 ≤ length s → getD s i 0 ≡ 0x22 → getD s (i + 1) 0 ≡ 0x22 → pairs (drop i s) ≡ suc (pairs (drop (i + 2) s))
+unfolding pairs
+pairs-more s i h a b =
+    let l : i < length s = omega arith in
+    let m : suc i < length s = omega arith in
+    let e : suc (suc i) ≡ i + 2 = omega arith in
+    let b′ = rw add-one at b in
+    rw (drop-cons s i 0 l, drop-cons s (suc i) 0 m, a, b′, e)
+
+pub pairs-stops : (s : Bytes) (i : ℕ) → i + 2 ≤ length s → (eqb (getD s i 0) 0x22 && eqb (getD s (i + 1) 0) 0x22) ≡ false → pairs (drop i s) ≡ 0
+unfolding pairs
+pairs-stops s i h e =
+    let l : i < length s = omega arith in
+    let m : suc i < length s = omega arith in
+    let e′ = rw add-one at e in
+    rw (drop-cons s i 0 l, drop-cons s (suc i) 0 m, e′)
+
+pairs-short : (f : Bytes) → length f ≤ 1 → pairs f ≡ 0
+unfolding pairs
+pairs-short [] h = refl
+pairs-short (a ∷ []) h = refl
+pairs-short (a ∷ (b ∷ f)) h = absurd (omega arith)
+
+pub pairs-end : (s : Bytes) (i : ℕ) → length s - i < 2 → pairs (drop i s) ≡ 0
+pairs-end s i h = pairs-short (drop i s) (rw (length-drop i s) (omega arith))
+
+pub pairs-skip :
+    (n : ℕ) (s : Bytes) (i : ℕ) → i + (n + n) ≤ length s → ((k : ℕ) → k < n + n → getD s (i + k) 0 ≡ 0x22) → pairs (drop i s) ≡ n + pairs (drop (i + (n + n)) s)
+pairs-skip zero s i h f =
+    let e : i ≡ i + (0 + 0) = omega arith in
+    omega (arith, ap (λ (j : ℕ). pairs (drop j s)) e)
+pairs-skip (suc n) s i h f =
+    let e : i + 0 ≡ i = omega arith in
+    let one : getD s i 0 ≡ 0x22 = rw e at (f 0 (omega arith)) in
+    let two : getD s (i + 1) 0 ≡ 0x22 = f 1 (omega arith) in
+    let later : (k : ℕ) → k < n + n → getD s (i + 2 + k) 0 ≡ 0x22 = λ k q. rw (turn k) (f (k + 2) (omega arith)) in
+    let rest : i + 2 + (n + n) ≡ i + (suc n + suc n) = omega arith in
+    omega (arith, pairs-more s i (omega arith) one two, pairs-skip n s (i + 2) (omega arith) later, ap (λ (j : ℕ). pairs (drop j s)) rest)
+  where
+    turn : (k : ℕ) → i + 2 + k ≡ i + (k + 2)
+    turn k = omega arith
+
+-- a walk from a place stands at i, behind n pairs
+abbrev pub Paired : Bytes → ℕ → ℕ → ℕ → Type 0
+Paired s from n i = (i ≤ length s) × (n + n ≤ i) × (n + pairs (drop i s) ≡ pairs (drop from s))
+
+module _ (s : Bytes) (from n i : ℕ) (h : Paired s from n i) where
+  pub paired-more : i + 2 ≤ length s → getD s i 0 ≡ 0x22 → getD s (i + 1) 0 ≡ 0x22 → Paired s from (n + 1) (i + 2)
+  paired-more l a b = (l, omega arith, omega (arith, pairs-more s i l a b))
+
+  pub paired-block : i + 64 ≤ length s → ((k : ℕ) → k < 64 → getD s (i + k) 0 ≡ 0x22) → Paired s from (n + 32) (i + 64)
+  paired-block l e = (l, omega arith, omega (arith, pairs-skip 32 s i l e))
+
+  pub paired-first : i + 2 ≤ length s → (getD s i 0 ≡ 0x22 → ⊥) → n ≡ pairs (drop from s)
+  paired-first l e = omega (arith, pairs-stops s i l (rw (ne-eqb (getD s i 0) 0x22 e)))
+
+  pub paired-second : i + 2 ≤ length s → (getD s (i + 1) 0 ≡ 0x22 → ⊥) → n ≡ pairs (drop from s)
+  paired-second l e = omega (arith, pairs-stops s i l (rw (ne-eqb (getD s (i + 1) 0) 0x22 e) (and-false (eqb (getD s i 0) 0x22))))
+
+  pub paired-end : length s - i < 2 → n ≡ pairs (drop from s)
+  paired-end l = omega (arith, pairs-end s i l)
+
+-- both parts of a test
+pub and-both : (x y : Bool) → (x && y) ≡ true → (x ≡ true) × (y ≡ true)
+and-both true y e = (refl, e)
+and-both false y e = absurd (false≢true e)
+
+-- a front that goes on
+pub run-add : (p : ℕ → Bool) (s : Bytes) (a b : ℕ) → a ≤ run p s → b ≤ run p (drop a s) → a + b ≤ run p s
+unfolding run
+run-add p s zero b h k = omega (arith, k)
+run-add p [] (suc a) b h k = absurd (omega arith)
+run-add p (x ∷ s) (suc a) b h k = go (p x) h (λ q. run-add p s a b q k)
+  where
+    go : (y : Bool) → suc a ≤ cond y (suc (run p s)) 0 → (a ≤ run p s → a + b ≤ run p s) → suc a + b ≤ cond y (suc (run p s)) 0
+    go true q ih = omega (arith, ih (omega arith))
+    go false q ih = absurd (omega arith)

@@ -1,0 +1,69 @@
+-- `runs::is_plain` meets its contract.
+use Prim.Native.Nat.{ℕ}
+use native.Mathlib.Omega.{arith}
+use mathlib.Core.Path.{_≡_, refl}
+use mathlib.Core.Bool.{Bool, true, false, cond, not, _&&_}
+use lib.Dec.{eqb, leb}
+use borrow.Author.Tests.{eq-eqb, ne-eqb, le-leb, lt-leb, leb-true}
+use Rattle.format.specs.Dialect.{blanks, bytes, names, isWide, Class, text, blank, CR, LF, forbidden, classOf}
+use Rattle.runs.specs.Runs.{isText, isPlain}
+use Rattle.runs.proofs.is_plain.Statement.{statement}
+use Rattle.runs.proofs.is_plain.Tie as tie
+
+blank-case : (x : Bool) → not x ≡ (isText (cond x blank text) && true)
+blank-case true = refl
+blank-case false = refl
+
+low-case : (x y w a : Bool) → false ≡ (isText (cond x CR (cond y LF (cond w (cond a text forbidden) forbidden))) && not w)
+low-case true y w a = refl
+low-case false true w a = refl
+low-case false false true true = refl
+low-case false false true false = refl
+low-case false false false a = refl
+
+high-case : (y w a : Bool) → (y ≡ true → w ≡ false) → y ≡ (isText (cond y text (cond w (cond a text forbidden) forbidden)) && not w)
+high-case true w a h = rw (h refl)
+high-case false true true h = refl
+high-case false true false h = refl
+high-case false false a h = refl
+
+returns : tie.Need-returns
+unfolding isPlain classOf
+returns c = rw (eq-eqb _ _ (c .if1 .taken))
+
+returns-2 : tie.Need-returns-2
+unfolding isPlain classOf
+returns-2 c = rw (ne-eqb _ _ (c .before .if1 .left), c .if2 .taken)
+
+returns-3 : tie.Need-returns-3
+unfolding isPlain classOf
+returns-3 c = rw (ne-eqb _ _ (c .before .before .if1 .left), c .if3 .taken) (blank-case (names (c .before .before .before .args .leniencies) blanks))
+
+returns-4 : tie.Need-returns-4
+unfolding isPlain classOf
+returns-4 c =
+    rw (
+      ne-eqb _ _ (c .before .before .before .if1 .left),
+      ne-eqb _ _ (c .before .before .if2 .left),
+      ne-eqb _ _ (c .before .if3 .left),
+      lt-leb 0x21 _ (c .if4 .taken),
+    )
+    (let b = c .before .before .before .before .args .b in low-case (eqb b 0x0D) (eqb b 0x0A) (isWide b) (names (c .before .before .before .before .args .leniencies) bytes))
+
+returns-5 : tie.Need-returns-5
+unfolding isPlain classOf
+returns-5 c =
+    let b = c .before .before .before .before .args .b in
+    let h = c .if4 .left in
+    rw (
+      ne-eqb _ _ (c .before .before .before .if1 .left),
+      ne-eqb _ _ (c .before .before .if2 .left),
+      ne-eqb _ _ (c .before .if3 .left),
+      ne-eqb b 0x0D (λ e. omega arith),
+      ne-eqb b 0x0A (λ e. omega arith),
+      le-leb 0x21 b h,
+    )
+    (high-case (leb b 0x7E) (isWide b) (names (c .before .before .before .before .args .leniencies) bytes) (λ e. let l = leb-true b 0x7E e in rw (ne-eqb b 0x09 (λ q. omega arith), lt-leb 0x80 b (omega arith))))
+
+pub is-plain-spec : {M : Type 1} → statement M
+is-plain-spec = tie.close (tie.spec returns returns-2 returns-3 returns-4 returns-5)

@@ -1,0 +1,211 @@
+// Runs of bytes that a walk over a file may pass at once: how long each is from a place on.
+//
+// specs/Runs.antt says what a run is. Blocks are judged by loops that the compiler makes vectors of.
+ghost use mathlib.Core.Path.{_≡_};
+ghost use mathlib.Core.Bool.{true};
+ghost use Prim.Native.Nat.{ℕ, _+_, _<_, _≤_};
+ghost use lib.ListN.{length, getD, take, drop};
+ghost use Rattle.format.specs.Dialect.{dialect};
+ghost use Rattle.runs.specs.Runs.{run, isPlain, isInner, pairs};
+ghost use Rattle.runs.specs.Words.{bit, word, Marks, Stops};
+
+// Whether b is plain text in the dialect of any two bytes.
+pub fn is_plain(delimiter: u8, leniencies: u8, b: u8) -> bool
+    ensures { λ r. ⌜ r ≡ isPlain (dialect delimiter leniencies) b ⌝ }
+{
+    if b == delimiter {
+        return false;
+    }
+    if b == 0x22 {
+        return false;
+    }
+    if b == 0x20 {
+        return leniencies / 2 % 2 != 1;
+    }
+    if b < 0x21 {
+        return false;
+    }
+    b <= 0x7E
+}
+
+// How many bytes of plain text stand from a place on.
+pub fn text_run(delimiter: u8, leniencies: u8, s: &[u8], from: usize) -> usize
+    ensures { λ r. ⌜ r ≡ run (isPlain (dialect delimiter leniencies)) (drop from (now (s .entry))) ⌝ }
+{
+    let mut i = from;
+    while i < s.len() {
+        if !is_plain(delimiter, leniencies, s[i]) {
+            return i - from;
+        }
+        i += 1;
+    }
+    i - from
+}
+
+// Whether b is content between quotes in every dialect, needs no leniency and ends no line.
+pub fn is_inner(b: u8) -> bool
+    ensures { λ r. ⌜ r ≡ isInner b ⌝ }
+{
+    (b == 0x0D) | ((0x20 <= b) & (b <= 0x7E) & (b != 0x22))
+}
+
+// Whether the 16 bytes from a place on are all such.
+fn inner_block(s: &[u8], at: usize) -> bool
+    requires { ⌜ at + 16 ≤ length (now s) ⌝ }
+    ensures { λ r. ⌜ (r ≡ true → (k : ℕ) → k < 16 → isInner (getD (now (s .entry)) (at + k) 0) ≡ true) ⌝ }
+{
+    let mut all = true;
+    let mut j = 0;
+    while j < 16 {
+        all = all & is_inner(s[at + j]);
+        j += 1;
+    }
+    all
+}
+
+// How many such bytes stand from a place on.
+pub fn inner_run(s: &[u8], from: usize) -> usize
+    ensures { λ r. ⌜ r ≡ run isInner (drop from (now (s .entry))) ⌝ }
+{
+    if s.len() <= from {
+        return 0;
+    }
+    let mut i = from;
+    while 16 <= s.len() - i && inner_block(s, i) {
+        i += 16;
+    }
+    while i < s.len() {
+        if !is_inner(s[i]) {
+            return i - from;
+        }
+        i += 1;
+    }
+    i - from
+}
+
+// Whether the 64 bytes from a place on are all quotes.
+fn quote_block(s: &[u8], at: usize) -> bool
+    requires { ⌜ at + 64 ≤ length (now s) ⌝ }
+    ensures { λ r. ⌜ (r ≡ true → (k : ℕ) → k < 64 → getD (now (s .entry)) (at + k) 0 ≡ 0x22) ⌝ }
+{
+    let mut all = true;
+    let mut j = 0;
+    while j < 64 {
+        all = all & (s[at + j] == 0x22);
+        j += 1;
+    }
+    all
+}
+
+// How many pairs of quotes stand from a place on, one behind the other. A block is tried only where
+// a second pair follows the first.
+pub fn pair_run(s: &[u8], from: usize) -> usize
+    ensures { λ r. ⌜ r ≡ pairs (drop from (now (s .entry))) ⌝ }
+{
+    if s.len() <= from {
+        return 0;
+    }
+    let mut i = from;
+    let mut n = 0;
+    while 64 <= s.len() - i && s[i] == 0x22 && s[i + 32] == 0x22 && quote_block(s, i) {
+        i += 64;
+        n += 32;
+    }
+    while 2 <= s.len() - i {
+        if s[i] != 0x22 {
+            return n;
+        }
+        if s[i + 1] != 0x22 {
+            return n;
+        }
+        i += 2;
+        n += 1;
+    }
+    n
+}
+
+// The word of 16 bytes by a table of marks, the first byte lowest.
+fn marks(t: &[bool; 256], s: &[u8], at: usize) -> u64
+    requires { ⌜ at + 16 ≤ length (now s) ⌝ }
+    ensures { λ r. ⌜ r ≡ word (now (t .entry)) (take 16 (drop at (now (s .entry)))) ⌝ }
+{
+    let mut w: u64 = 0;
+    let mut i = 16;
+    while 0 < i {
+        i -= 1;
+        w = w * 2 + bit(t[s[at + i] as usize]);
+    }
+    w
+}
+
+fn bit(x: bool) -> u64
+    ensures { λ r. ⌜ r ≡ bit x ⌝ }
+{
+    if x { 1 } else { 0 }
+}
+
+// The word of 32 bytes.
+fn marks_32(t: &[bool; 256], s: &[u8], at: usize) -> u64
+    requires { ⌜ at + 32 ≤ length (now s) ⌝ }
+    ensures { λ r. ⌜ r ≡ word (now (t .entry)) (take 32 (drop at (now (s .entry)))) ⌝ }
+{
+    let low = marks(t, s, at);
+    let high = marks(t, s, at + 16);
+    high * 65536 + low
+}
+
+// The word of 64 bytes, or of as many as there are: four chains of 16, which a processor runs beside
+// each other.
+pub fn marks_64(t: &[bool; 256], s: &[u8], at: usize) -> u64
+    ensures { λ r. ⌜ r ≡ word (now (t .entry)) (take 64 (drop at (now (s .entry)))) ⌝ }
+{
+    if s.len() < 64 {
+        return marks_rest(t, s, at);
+    }
+    if s.len() - 64 < at {
+        return marks_rest(t, s, at);
+    }
+    let low = marks_32(t, s, at);
+    let high = marks_32(t, s, at + 32);
+    high * 4294967296 + low
+}
+
+// The word of the last bytes, fewer than 64.
+fn marks_rest(t: &[bool; 256], s: &[u8], at: usize) -> u64
+    requires { ⌜ length (now s) < at + 64 ⌝ }
+    ensures { λ r. ⌜ r ≡ word (now (t .entry)) (take 64 (drop at (now (s .entry)))) ⌝ }
+{
+    let mut w: u64 = 0;
+    let mut i = s.len();
+    while at < i {
+        i -= 1;
+        w = w * 2 + bit(t[s[i] as usize]);
+    }
+    w
+}
+
+// The table of a dialect's marks: each byte that is not plain text.
+pub fn stop_table(delimiter: u8, leniencies: u8) -> [bool; 256]
+    ensures { λ r. ⌜ Stops r (dialect delimiter leniencies) ⌝ }
+{
+    let mut t = [false; 256];
+    let mut i = 0;
+    while i < 256 {
+        t[i] = !is_plain(delimiter, leniencies, i as u8);
+        i += 1;
+    }
+    t
+}
+
+// The table that marks what is no content between quotes.
+pub fn inner_table() -> [bool; 256]
+    ensures { λ r. ⌜ Marks r isInner ⌝ }
+{
+    let mut t = [false; 256];
+    let mut i = 0;
+    while i < 256 {
+        t[i] = !is_inner(i as u8);
+        i += 1;
+    }
+    t
+}
