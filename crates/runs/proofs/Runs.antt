@@ -8,7 +8,7 @@ use mathlib.Core.List.{[], _∷_}
 use lib.ListN.{length, getD, drop, drop-of-length-le, length-drop}
 use borrow.Author.Tests.{ne-eqb}
 use lib.Dec.{eqb}
-use lib.Seq.{drop-cons}
+use lib.Seq.{drop-cons, drop-drop}
 use Rattle.format.specs.Table.{Bytes}
 use Rattle.runs.specs.Runs.{run, pairs}
 
@@ -155,3 +155,15 @@ run-add p (x ∷ s) (suc a) b h k = go (p x) h (λ q. run-add p s a b q k)
     go : (y : Bool) → suc a ≤ cond y (suc (run p s)) 0 → (a ≤ run p s → a + b ≤ run p s) → suc a + b ≤ cond y (suc (run p s)) 0
     go true q ih = omega (arith, ih (omega arith))
     go false q ih = absurd (omega arith)
+
+-- the same in a part: up to i from b on, and k more from i on
+pub run-join : (p : ℕ → Bool) (s : Bytes) (b i k : ℕ) → b ≤ i → i - b ≤ run p (drop b s) → k ≤ run p (drop i s) → i + k - b ≤ run p (drop b s)
+run-join p s b i k from h l =
+    let e : b + (i - b) ≡ i = omega arith in
+    let q : run p (drop (i - b) (drop b s)) ≡ run p (drop i s) = ap (run p) (drop-drop (i - b) b s ∙ ap (λ (j : ℕ). drop j s) e) in
+    let all = run-add p (drop b s) (i - b) k h (omega (arith, l, q)) in
+    omega (arith, all, from)
+
+-- a run ends within its part
+pub run-within : (p : ℕ → Bool) (s : Bytes) (i k : ℕ) → i ≤ length s → k ≤ run p (drop i s) → i + k ≤ length s
+run-within p s i k h l = omega (arith, run-le p (drop i s), length-drop i s)

@@ -1,5 +1,5 @@
 -- A word of marks: its bound, its trailing zeros, and what a shift drops.
-use Prim.Native.Nat.{ℕ, zero, suc, _+_, _-_, _*_, _/_, _%_, _^_, _≤_, _<_}
+use Prim.Native.Nat.{ℕ, zero, suc, _+_, _-_, _*_, _/_, _%_, _^_, _≤_, _<_, min}
 use native.Mathlib.Nat.{pow-suc, lt-of-lt-of-le, zero-div, mul-assoc}
 use native.Mathlib.Numerals.{add-one, one-add}
 use native.Mathlib.Omega.{arith}
@@ -14,7 +14,7 @@ use lib.Dec.{leb}
 use borrow.Author.Tests.{leb-true, leb-false}
 use Rattle.format.specs.Table.{Bytes}
 use Rattle.runs.specs.Runs.{run}
-use Rattle.runs.specs.Words.{bit, word, Marks}
+use Rattle.runs.specs.Words.{bit, word, blockEnd, Marks}
 
 pub bit-le : (x : Bool) → bit x ≤ 1
 bit-le true = omega arith
@@ -196,6 +196,28 @@ module _ (t : List Bool) (p : ℕ → Bool) (marks : Marks t p) (s : Bytes) (byt
       let m : trailingZeros 64 w ≡ run (unmarked t) (take (e - i) (drop i s)) =
       ap (trailingZeros 64) h ∙ first-word t (take (e - i) (drop i s)) 64 (omega (arith, block-length b)) q in
       (omega (arith, m, q, block-length b), omega (arith, m, text-le))
+
+-- the block from a place on: it is within the part and of at most 64 bytes, and the word of 64 marks is its own
+pub record Block (t : List Bool) (s : Bytes) (i w : ℕ) : Type 0 where
+  pub on : i < blockEnd (length s) i
+  pub within : blockEnd (length s) i ≤ length s
+  pub small : blockEnd (length s) i - i ≤ 64
+  pub marked : Marked t s (blockEnd (length s) i) i w
+
+pub block : (t : List Bool) (s : Bytes) (i w : ℕ) → i < length s → w ≡ word t (take 64 (drop i s)) → Block t s i w
+block t s i w l h = record { on = omega arith; within = omega arith; small = omega arith; marked = h ∙ by-length (leb 64 (length s - i)) refl }
+  where
+    same : (a b : ℕ) → a ≡ b → word t (take a (drop i s)) ≡ word t (take b (drop i s))
+    same a b e = ap (λ (n : ℕ). word t (take n (drop i s))) e
+
+    all : (n : ℕ) → length (drop i s) ≤ n → word t (take n (drop i s)) ≡ word t (drop i s)
+    all n q = ap (word t) (take-all n (drop i s) q)
+
+    by-length : (x : Bool) → leb 64 (length s - i) ≡ x → word t (take 64 (drop i s)) ≡ word t (take (blockEnd (length s) i - i) (drop i s))
+    by-length true e = let q = leb-true 64 (length s - i) e in same 64 (blockEnd (length s) i - i) (omega arith)
+    by-length false e =
+        let q = leb-false 64 (length s - i) e in
+        all 64 (rw (length-drop i s) (omega arith)) ∙ sym (all (blockEnd (length s) i - i) (rw (length-drop i s) (omega arith)))
 
 -- the last bytes, from their end
 module _ (t : List Bool) (s : Bytes) (at i w : ℕ) (room : length s < at + 64) (h : w ≡ word t (drop i s)) where

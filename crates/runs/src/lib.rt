@@ -3,11 +3,11 @@
 // specs/Runs.antt says what a run is. Blocks are judged by loops that the compiler makes vectors of.
 ghost use mathlib.Core.Path.{_≡_};
 ghost use mathlib.Core.Bool.{true};
-ghost use Prim.Native.Nat.{ℕ, _+_, _<_, _≤_};
+ghost use Prim.Native.Nat.{ℕ, _+_, _-_, _<_, _≤_};
 ghost use lib.ListN.{length, getD, take, drop};
 ghost use Rattle.format.specs.Dialect.{dialect};
 ghost use Rattle.runs.specs.Runs.{run, isPlain, isInner, pairs};
-ghost use Rattle.runs.specs.Words.{bit, word, Marks, Stops};
+ghost use Rattle.runs.specs.Words.{bit, word, blockEnd, Marks, Stops};
 
 // Whether b is plain text in the dialect of any two bytes.
 pub fn is_plain(delimiter: u8, leniencies: u8, b: u8) -> bool
@@ -182,6 +182,26 @@ fn marks_rest(t: &[bool; 256], s: &[u8], at: usize) -> u64
         w = w * 2 + bit(t[s[i] as usize]);
     }
     w
+}
+
+// Where the block from a place on ends: 64 bytes on, or where the part ends.
+pub fn block_end(s: &[u8], at: usize) -> usize
+    ensures { λ r. ⌜ r ≡ blockEnd (length (now (s .entry))) at ⌝ }
+{
+    if s.len() <= at {
+        return at;
+    }
+    if s.len() - at < 64 {
+        return s.len();
+    }
+    at + 64
+}
+
+// The later of two places.
+pub fn later(i: usize, e: usize) -> usize
+    ensures { λ r. ⌜ r ≡ i + (e - i) ⌝ }
+{
+    if i < e { e } else { i }
 }
 
 // The table of a dialect's marks: each byte that is not plain text.
