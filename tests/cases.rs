@@ -20,8 +20,12 @@ mod hand_states;
 mod headers;
 #[path = "cases/laws.rs"]
 mod laws;
+#[path = "cases/limit_runs.rs"]
+mod limit_runs;
 #[path = "cases/malformed.rs"]
 mod malformed;
+#[path = "cases/many_rows.rs"]
+mod many_rows;
 #[path = "cases/paper.rs"]
 mod paper;
 #[path = "cases/random.rs"]
@@ -32,6 +36,8 @@ mod random_files;
 mod random_tables;
 #[path = "cases/rooms.rs"]
 mod rooms;
+#[path = "cases/runs.rs"]
+mod runs;
 #[path = "cases/short_files.rs"]
 mod short_files;
 #[path = "cases/small_tables.rs"]
@@ -51,8 +57,11 @@ fn main() -> io::Result<()> {
     dialect_bytes::send(&mut stream)?;
     rooms::send(&mut stream)?;
     random_files::send(&mut stream)?;
+    runs::send(&mut stream)?;
+    many_rows::send(&mut stream)?;
     content_limit::send(&mut stream)?;
     file_limit::send(&mut stream)?;
+    limit_runs::send(&mut stream)?;
     hand_states::send(&mut stream)?;
     small_tables::send(&mut stream)?;
     writer_order::send(&mut stream)?;

@@ -56,6 +56,9 @@ static bool take_item(void)
     case 'C':
         take_hand_state();
         break;
+    case 'N':
+        take_numbered_state();
+        break;
     case 'E':
         take_trailer();
         break;

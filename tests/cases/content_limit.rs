@@ -7,7 +7,7 @@ use crate::rooms::usual;
 use crate::stream::{Recipe, Stream};
 use std::io::{self, Write};
 
-const DIALECTS: [(u8, u8); 6] = [
+pub const DIALECTS: [(u8, u8); 6] = [
     (b',', 0),
     (b',', 3),
     (b',', 4),
@@ -29,7 +29,7 @@ pub fn send<W: Write>(stream: &mut Stream<W>) -> io::Result<()> {
     stream.section("contents of 4,096 and 4,097 bytes")?;
     let mut random = Random::from_seed(4096);
     for dialect in DIALECTS {
-        let own = |part: &str| with_delimiter(part, dialect.0);
+        let own = |part: &str| with_delimiter(part.as_bytes(), dialect.0);
         for length in [CONTENT_LIMIT, CONTENT_LIMIT + 1] {
             for field in fields(length) {
                 for before in BEFORE {
@@ -84,7 +84,8 @@ fn fields(length: usize) -> Vec<Recipe> {
     ]
 }
 
-fn with_delimiter(part: &str, delimiter: u8) -> Vec<u8> {
-    let own = |b: u8| if b == b',' { delimiter } else { b };
-    part.bytes().map(own).collect()
+/// The bytes, with the delimiter in the place of every comma.
+pub fn with_delimiter(part: &[u8], delimiter: u8) -> Vec<u8> {
+    let own = |&b: &u8| if b == b',' { delimiter } else { b };
+    part.iter().map(own).collect()
 }

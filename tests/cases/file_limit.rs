@@ -64,7 +64,7 @@ fn doubling_pieces() -> Vec<usize> {
 
 /// A file of this size is read once with exactly enough room and once with an end too few; or, if
 /// it is refused, once with ample room.
-fn rooms(answer: &Answer) -> Vec<Room> {
+pub fn rooms(answer: &Answer) -> Vec<Room> {
     if answer.refusal == refusal::ACCEPTED {
         vec![exact(answer), changed(answer, 2)]
     } else {

@@ -39,7 +39,7 @@ fn hold_for_files(delimiter: u8, leniencies: u8, alphabet: &[u8], longest: usize
     .expect("nothing is written");
 }
 
-fn agrees_with_the_grammar(file: &[u8], delimiter: u8, leniencies: u8) {
+pub fn agrees_with_the_grammar(file: &[u8], delimiter: u8, leniencies: u8) {
     let dialect = Dialect::of(delimiter, leniencies).expect("a known dialect");
     let (answer, table) = check(file, delimiter, leniencies);
     let taken: Vec<_> = table

@@ -62,6 +62,26 @@ pub fn usual(length: usize, turn: usize) -> impl Fn(&Answer) -> Vec<Room> {
     }
 }
 
+/// For an accepted file the exact room, room that lacks a place in some buffer, and room for some
+/// places or for whole blocks more, both by `turn`; for a refused file ample room and none.
+pub fn around(length: usize, turn: usize) -> impl Fn(&Answer) -> Vec<Room> {
+    const MORE: [usize; 10] = [1, 7, 8, 9, 16, 31, 32, 63, 64, 130];
+    move |answer| {
+        let need = exact(answer);
+        let more = MORE[turn % MORE.len()];
+        let wide = Room {
+            text: need.text + more,
+            ends: need.ends + more,
+            rows: need.rows + more,
+        };
+        if answer.refusal == refusal::ACCEPTED {
+            vec![need, changed(answer, 1 + turn % 7), wide]
+        } else {
+            vec![ample(length), NONE]
+        }
+    }
+}
+
 /// The driver has no more room than this.
 const MOST_ROOM: usize = FILE_LIMIT + 16_384;
 

@@ -17,7 +17,9 @@
 //! - `T`, a table: text, ends and rows as lists; how many writes, finds and shows, and each of them.
 //! - `C`, a check state put together by hand: delimiter and leniencies, the list fed first, a seed,
 //!   how many places are hit (0: all), the list fed then.
-//! - `E`, the trailer: how many sections, and for each how many items `W`, `L`, `T` and `C`.
+//! - `N`, a check state put together number by number: its numbers in the order of the header, the
+//!   list fed then, the length of the first piece where it is fed in two.
+//! - `E`, the trailer: how many sections, and for each how many items `W`, `L`, `T`, `C` and `N`.
 //!
 //! An outcome is the table's three lists if the last answer accepts, then trials of room: how
 //! many, each with places in text, ends and rows and the answer. A write is a mode as a byte, room,
@@ -33,6 +35,9 @@ use std::io::{self, Write};
 
 /// Lists of at most this many entries are sent entry by entry.
 const PLAIN_LIST: usize = 64;
+
+/// A check's state has this many numbers.
+const STATE_NUMBERS: usize = 25;
 
 /// A file as parts, each standing a number of times.
 pub type Recipe = Vec<(Vec<u8>, usize)>;
@@ -165,6 +170,16 @@ impl<W: Write> Stream<W> {
         self.number(state.seed)?;
         self.number(state.hits)?;
         self.list(state.fed_then)
+    }
+
+    pub fn numbered_state(&mut self, numbers: &[u32], fed: &[u8], cut: usize) -> io::Result<()> {
+        assert_eq!(numbers.len(), STATE_NUMBERS, "the numbers of a state");
+        self.item(b'N')?;
+        for &number in numbers {
+            self.number(number.into())?;
+        }
+        self.list(fed)?;
+        self.number(cut as u64)
     }
 
     /// The trailer, without which the driver takes no stream as whole.

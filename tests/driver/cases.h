@@ -12,5 +12,6 @@ void take_walked_file(void);
 void take_long_file(void);
 void take_table(void);
 void take_hand_state(void);
+void take_numbered_state(void);
 
 #endif

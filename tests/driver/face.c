@@ -118,6 +118,63 @@ void call_show(const struct table *table, size_t record, size_t column, uint32_t
     answer[2] = part.length;
 }
 
+static void put_place(sv_place place, uint32_t *to)
+{
+    to[0] = place.line;
+    to[1] = place.column;
+    to[2] = place.byte;
+}
+
+void numbers_of_state(sv_check state, uint32_t *to)
+{
+    const uint8_t bytes[] = {state.delimiter,   state.leniencies,  state.refusal,
+                             state.form,        state.begun,       state.used.lf,
+                             state.used.blanks, state.used.ragged, state.used.bytes};
+    for (size_t i = 0; i < sizeof bytes; i++)
+        to[i] = bytes[i];
+    put_place(state.here, to + 9);
+    put_place(state.mark, to + 12);
+    put_place(state.field.start, to + 15);
+    to[18] = state.field.content;
+    to[19] = state.field.held;
+    to[20] = state.field.number;
+    to[21] = state.counts.records;
+    to[22] = state.counts.fields;
+    to[23] = state.counts.text;
+    to[24] = state.counts.width;
+}
+
+static sv_place place_of(const uint32_t *from)
+{
+    sv_place place = {from[0], from[1], from[2]};
+    return place;
+}
+
+sv_check state_of_numbers(const uint32_t *from)
+{
+    sv_check state;
+    state.delimiter = (uint8_t)from[0];
+    state.leniencies = (uint8_t)from[1];
+    state.refusal = (uint8_t)from[2];
+    state.form = (uint8_t)from[3];
+    state.begun = (uint8_t)from[4];
+    state.used.lf = (uint8_t)from[5];
+    state.used.blanks = (uint8_t)from[6];
+    state.used.ragged = (uint8_t)from[7];
+    state.used.bytes = (uint8_t)from[8];
+    state.here = place_of(from + 9);
+    state.mark = place_of(from + 12);
+    state.field.start = place_of(from + 15);
+    state.field.content = from[18];
+    state.field.held = from[19];
+    state.field.number = from[20];
+    state.counts.records = from[21];
+    state.counts.fields = from[22];
+    state.counts.text = from[23];
+    state.counts.width = from[24];
+    return state;
+}
+
 sv_bytes shown_of(const struct table *table, const uint32_t *part, const uint8_t *stand_in,
                   size_t stand_in_length)
 {

@@ -45,6 +45,11 @@ void call_write(const struct table *table, uint8_t mode, struct lent *out, size_
 void call_find_column(const struct table *table, const struct list *name, uint32_t *answer);
 void call_show(const struct table *table, size_t record, size_t column, uint32_t *answer);
 
+/* The numbers of a check's state, in the order of the header, without the bytes between them. */
+enum { STATE = 25 };
+void numbers_of_state(sv_check state, uint32_t *to);
+sv_check state_of_numbers(const uint32_t *from);
+
 /* What the header's inline function hands out for the numbers of a part. */
 sv_bytes shown_of(const struct table *table, const uint32_t *part, const uint8_t *stand_in,
                   size_t stand_in_length);

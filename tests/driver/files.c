@@ -175,6 +175,26 @@ static void check_small_pieces(void)
     }
 }
 
+/* Feeds the file in pieces of one length, the last perhaps shorter, and asks after each. */
+static void check_equal_pieces(size_t length)
+{
+    sv_check state = call_start(dialect);
+    for (size_t fed = 0; fed < walked_length;) {
+        size_t left = walked_length - fed;
+        size_t coming = length < left ? length : left;
+        state = feed(state, walked + fed, coming);
+        fed += coming;
+        ask_twice(state, answers[fed], "fed in equal pieces", fed, coming);
+    }
+}
+
+static void check_all_equal_pieces(void)
+{
+    static const size_t lengths[] = {7, 8, 63, 64, 65};
+    for (size_t i = 0; i < sizeof lengths / sizeof lengths[0]; i++)
+        check_equal_pieces(lengths[i]);
+}
+
 void take_walked_file(void)
 {
     size_t kept = take_number();
@@ -192,6 +212,8 @@ void take_walked_file(void)
     check_every_cut();
     if (walked_length > 6)
         check_small_pieces();
+    if (walked_length > 64)
+        check_all_equal_pieces();
     take_outcome(answers[walked_length]);
     if (memcmp(list_start(&file), walked, walked_length) != 0)
         disagree("a call changed the file that it reads");

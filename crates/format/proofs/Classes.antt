@@ -160,6 +160,23 @@ class-delimiter d = go (eqb (d .delimiterByte) (d .delimiterByte)) _ (eqb-refl (
     go true u t = refl
     go false u t = absurd t
 
+-- the same in a dialect of any two bytes: the delimiter, and what it is not
+pub delimiter-at : (d : Dialect) (b : ℕ) → b ≡ d .delimiterByte → classOf d b ≡ delimiter
+unfolding classOf
+delimiter-at d b e = rw (eq-eqb b (d .delimiterByte) e)
+
+pub quote-beside : (d : Dialect) → (d .delimiterByte ≡ 0x22 → ⊥) → classOf d 0x22 ≡ quote
+unfolding classOf
+quote-beside d e = rw (ne-eqb 0x22 (d .delimiterByte) (λ q. e (sym q)))
+
+pub CR-beside : (d : Dialect) → (d .delimiterByte ≡ 0x0D → ⊥) → classOf d 0x0D ≡ CR
+unfolding classOf
+CR-beside d e = rw (ne-eqb 0x0D (d .delimiterByte) (λ q. e (sym q)))
+
+pub LF-beside : (d : Dialect) → (d .delimiterByte ≡ 0x0A → ⊥) → classOf d 0x0A ≡ LF
+unfolding classOf
+LF-beside d e = rw (ne-eqb 0x0A (d .delimiterByte) (λ q. e (sym q)))
+
 unmarked : (x q c l : Bool) → (x || (q || (c || l))) ≡ false → (x ≡ false) × (q ≡ false) × (c ≡ false) × (l ≡ false)
 unmarked true q c l e = absurd (true≢false e)
 unmarked false true c l e = absurd (true≢false e)

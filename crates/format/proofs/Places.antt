@@ -6,6 +6,7 @@ use mathlib.Core.Path.{_≡_, refl, ap}
 use mathlib.Core.Bool.{Bool, true, false, cond}
 use mathlib.Core.List.{[], _∷_, _++_, append-assoc, append-nil}
 use lib.Dec.{eqb, eqb·suc-zero}
+use borrow.Author.Tests.{eq-eqb}
 use lib.ListN.{length, length-append}
 use lib.Seq.{take-at}
 use Rattle.format.specs.declared.Place.{Place}
@@ -41,6 +42,25 @@ pub lineFeeds-append : (s r : Bytes) → lineFeeds (s ++ r) ≡ lineFeeds s + li
 unfolding lineFeeds
 lineFeeds-append [] r = omega arith
 lineFeeds-append (b ∷ s) r = rw (lineFeeds-append s r) (omega arith)
+
+-- one byte more in front
+pub feeds-lf : (b : ℕ) (f : Bytes) → eqb b 0x0A ≡ true → lineFeeds (b ∷ f) ≡ 1 + lineFeeds f
+unfolding lineFeeds
+feeds-lf b f e = rw e
+
+pub feeds-other : (b : ℕ) (f : Bytes) → eqb b 0x0A ≡ false → lineFeeds (b ∷ f) ≡ lineFeeds f
+unfolding lineFeeds
+feeds-other b f e = rw e (omega arith)
+
+-- without an LF it is all of them, and bytes before an LF do not count
+pub since-none : (f : Bytes) → lineFeeds f ≡ 0 → sinceLf f ≡ f
+unfolding sinceLf
+since-none [] h = refl
+since-none (b ∷ f) h = rw (eq-eqb (lineFeeds (b ∷ f)) 0 h)
+
+pub since-on : (b : ℕ) (f : Bytes) → eqb (lineFeeds (b ∷ f)) 0 ≡ false → sinceLf (b ∷ f) ≡ sinceLf f
+unfolding sinceLf
+since-on b f e = rw e
 
 sum-zero : (n m : ℕ) → eqb (n + m) 0 ≡ cond (eqb m 0) (eqb n 0) false
 sum-zero n zero = rw add-zero

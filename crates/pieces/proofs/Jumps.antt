@@ -19,40 +19,12 @@ use Rattle.steps.specs.Numbers.{formNumber, classNumber, coded, stepTable, step
 use Rattle.steps.proofs.Rules.{step-is}
 use Rattle.runs.specs.Runs.{run, isText, isPlain, isInner, pairs}
 use Rattle.runs.proofs.Runs.{run-le, pairs-le}
+use Rattle.runs.proofs.Bytes.{isInside, plain-class, plain-narrow, plain-no-lf, inner-inside, inner-narrow, inner-no-lf}
+use Rattle.format.proofs.Classes.{quote-beside}
 use Rattle.pieces.specs.declared.Check.{Check}
 use Rattle.pieces.specs.declared.Reached.{Reached}
-use Rattle.pieces.specs.Walk.{Leads, Still}
+use Rattle.pieces.specs.Walk.{Leads}
 use Rattle.pieces.specs.Check.{counterLimit, plus, moved, stopped, entered, placed, noting, onlyWide, noted, grown, stepped, fed, fedAll, along, jumped}
-
--- a text byte's class
-pub plain-text : (d : Dialect) (b : ℕ) → isPlain d b ≡ true → (classOf d b ≡ text) × (isWide b ≡ false)
-unfolding isPlain
-plain-text d b = go (classOf d b) (isWide b)
-  where
-    go : (x : Class) (w : Bool) → (isText x && not w) ≡ true → (x ≡ text) × (w ≡ false)
-    go text false e = (refl, refl)
-    go text true e = absurd (false≢true e)
-    go blank w e = absurd (false≢true e)
-    go delimiter w e = absurd (false≢true e)
-    go quote w e = absurd (false≢true e)
-    go CR w e = absurd (false≢true e)
-    go LF w e = absurd (false≢true e)
-    go forbidden w e = absurd (false≢true e)
-
-lf-plain : (d : Dialect) → isPlain d 0x0A ≡ true → ⊥
-unfolding isPlain classOf
-lf-plain d = go (eqb 0x0A (d .delimiterByte))
-  where
-    go : (x : Bool) → (isText (cond x delimiter LF) && true) ≡ true → ⊥
-    go true e = false≢true e
-    go false e = false≢true e
-
-plain-lf : (d : Dialect) (b : ℕ) → isPlain d b ≡ true → eqb b 0x0A ≡ false
-plain-lf d b e = go (eqb b 0x0A) refl
-  where
-    go : (y : Bool) → eqb b 0x0A ≡ y → y ≡ false
-    go false q = refl
-    go true q = absurd (lf-plain d (rw (eqb-true b 0x0A q) at e))
 
 -- a byte that is no LF moves the place along
 pub moved-along : (b : ℕ) (p : Place) → eqb b 0x0A ≡ false → moved b p ≡ along 1 p
@@ -75,91 +47,28 @@ text-step :
     (c : Check) (b : ℕ) (k : Form) → c .refusal ≡ 0 → c .form ≡ formNumber k → leb (formNumber k) 2 ≡ true
     → isPlain (dialect (c .delimiter) (c .leniencies)) b ≡ true → fed c b ≡ jumped 2 (moved b (c .here)) 1 c
 unfolding stepOf stepped jumped
-text-step c b start r f l e = let t = plain-text (dialect (c .delimiter) (c .leniencies)) b e in rw (fed-is c b start text r f (t .0), noted-none b c (t .1))
-text-step c b lead r f l e = let t = plain-text (dialect (c .delimiter) (c .leniencies)) b e in rw (fed-is c b lead text r f (t .0), noted-none b c (t .1))
-text-step c b bare r f l e = let t = plain-text (dialect (c .delimiter) (c .leniencies)) b e in rw (fed-is c b bare text r f (t .0), noted-none b c (t .1))
+text-step c b start r f l e = let d = dialect (c .delimiter) (c .leniencies) in rw (fed-is c b start text r f (plain-class d b e), noted-none b c (plain-narrow d b e))
+text-step c b lead r f l e = let d = dialect (c .delimiter) (c .leniencies) in rw (fed-is c b lead text r f (plain-class d b e), noted-none b c (plain-narrow d b e))
+text-step c b bare r f l e = let d = dialect (c .delimiter) (c .leniencies) in rw (fed-is c b bare text r f (plain-class d b e), noted-none b c (plain-narrow d b e))
 text-step c b quoted r f l e = absurd (false≢true l)
 text-step c b shut r f l e = absurd (false≢true l)
 text-step c b tail r f l e = absurd (false≢true l)
 text-step c b cr r f l e = absurd (false≢true l)
 
--- a byte that is neither a quote nor forbidden is content between quotes
-abbrev pub isInside : Class → Bool
-isInside text = true
-isInside blank = true
-isInside delimiter = true
-isInside quote = false
-isInside CR = true
-isInside LF = true
-isInside forbidden = false
-
-inner-parts : (b : ℕ) → isInner b ≡ true → (b ≡ 0x0D) ⊎ ((0x20 ≤ b) × (b ≤ 0x7E) × (eqb b 0x22 ≡ false))
-unfolding isInner
-inner-parts b = go (eqb b 0x0D) (leb 0x20 b) (leb b 0x7E) (eqb b 0x22) refl refl refl refl
-  where
-    go :
-        (x y z w : Bool) → eqb b 0x0D ≡ x → leb 0x20 b ≡ y → leb b 0x7E ≡ z → eqb b 0x22 ≡ w
-        → (x || ((y && z) && not w)) ≡ true → (b ≡ 0x0D) ⊎ ((0x20 ≤ b) × (b ≤ 0x7E) × (eqb b 0x22 ≡ false))
-    go true y z w p q r s e = inl (eqb-true b 0x0D p)
-    go false true true false p q r s e = inr (leb-true 0x20 b q, leb-true b 0x7E r, s)
-    go false true true true p q r s e = absurd (false≢true e)
-    go false true false w p q r s e = absurd (false≢true e)
-    go false false z w p q r s e = absurd (false≢true e)
-
-pub inner-lf : (b : ℕ) → isInner b ≡ true → eqb b 0x0A ≡ false
-inner-lf b e = go (inner-parts b e)
-  where
-    go : (b ≡ 0x0D) ⊎ ((0x20 ≤ b) × (b ≤ 0x7E) × (eqb b 0x22 ≡ false)) → eqb b 0x0A ≡ false
-    go (inl q) = ne-eqb b 0x0A (λ r. omega arith)
-    go (inr q) = ne-eqb b 0x0A (λ r. omega arith)
-
-inner-wide : (b : ℕ) → isInner b ≡ true → isWide b ≡ false
-inner-wide b e = go (inner-parts b e)
-  where
-    go : (b ≡ 0x0D) ⊎ ((0x20 ≤ b) × (b ≤ 0x7E) × (eqb b 0x22 ≡ false)) → isWide b ≡ false
-    go (inl q) = rw (ne-eqb b 0x09 (λ r. omega arith), lt-leb 0x80 b (omega arith))
-    go (inr q) = rw (ne-eqb b 0x09 (λ r. omega arith), lt-leb 0x80 b (omega arith))
-
-pub inner-class : (d : Dialect) (b : ℕ) → isInner b ≡ true → isInside (classOf d b) ≡ true
-unfolding classOf
-inner-class d b e = go (inner-parts b e)
-  where
-    some : (x : Bool) → isInside (cond x delimiter CR) ≡ true
-    some true = refl
-    some false = refl
-
-    tests : (x v y z a : Bool) → isInside (cond x delimiter (cond v CR (cond y LF (cond z (cond a blank text) text)))) ≡ true
-    tests true v y z a = refl
-    tests false true y z a = refl
-    tests false false true z a = refl
-    tests false false false true true = refl
-    tests false false false true false = refl
-    tests false false false false a = refl
-
-    go : (b ≡ 0x0D) ⊎ ((0x20 ≤ b) × (b ≤ 0x7E) × (eqb b 0x22 ≡ false)) → isInside (classOf d b) ≡ true
-    go (inl q) = rw q (some (eqb 0x0D (d .delimiterByte)))
-    go (inr q) = rw (q .2) (printed (eqb b 0x20) refl)
-      where
-        printed : (z : Bool) → eqb b 0x20 ≡ z → isInside (cond (eqb b (d .delimiterByte)) delimiter (cond (eqb b 0x0D) CR (cond (eqb b 0x0A) LF (cond z (cond (d .allows blanks) blank text) (cond (leb 0x21 b && leb b 0x7E) text (cond (isWide b) (cond (d .allows bytes) text forbidden) forbidden)))))) ≡ true
-        printed true k = tests (eqb b (d .delimiterByte)) (eqb b 0x0D) (eqb b 0x0A) true (d .allows blanks)
-        printed false k =
-            let l : leb 0x21 b ≡ true = le-leb 0x21 b (omega (arith, eqb-false b 0x20 k)) in
-            rw (l, le-leb b 0x7E (q .1)) (tests (eqb b (d .delimiterByte)) (eqb b 0x0D) (eqb b 0x0A) false (d .allows blanks))
-
 -- a byte between quotes
 inner-step :
     (c : Check) (b : ℕ) → c .refusal ≡ 0 → c .form ≡ 3 → isInner b ≡ true → fed c b ≡ jumped 3 (moved b (c .here)) 1 c
 unfolding stepOf stepped jumped
-inner-step c b r f e = go (classOf (dialect (c .delimiter) (c .leniencies)) b) refl (inner-class _ b e)
+inner-step c b r f e = go (classOf (dialect (c .delimiter) (c .leniencies)) b) refl (inner-inside _ b e)
   where
     go :
         (x : Class) → classOf (dialect (c .delimiter) (c .leniencies)) b ≡ x → isInside x ≡ true
         → fed c b ≡ jumped 3 (moved b (c .here)) 1 c
-    go text q i = rw (fed-is c b quoted text r f q, noted-none b c (inner-wide b e))
-    go blank q i = rw (fed-is c b quoted blank r f q, noted-none b c (inner-wide b e))
-    go delimiter q i = rw (fed-is c b quoted delimiter r f q, noted-none b c (inner-wide b e))
-    go CR q i = rw (fed-is c b quoted CR r f q, noted-none b c (inner-wide b e))
-    go LF q i = rw (fed-is c b quoted LF r f q, noted-none b c (inner-wide b e))
+    go text q i = rw (fed-is c b quoted text r f q, noted-none b c (inner-narrow b e))
+    go blank q i = rw (fed-is c b quoted blank r f q, noted-none b c (inner-narrow b e))
+    go delimiter q i = rw (fed-is c b quoted delimiter r f q, noted-none b c (inner-narrow b e))
+    go CR q i = rw (fed-is c b quoted CR r f q, noted-none b c (inner-narrow b e))
+    go LF q i = rw (fed-is c b quoted LF r f q, noted-none b c (inner-narrow b e))
     go quote q i = absurd (false≢true i)
     go forbidden q i = absurd (false≢true i)
 
@@ -190,14 +99,10 @@ jump-jump j k p q m n c =
 pub along-along : (m n : ℕ) (p : Place) → along n (along m p) ≡ along (m + n) p
 along-along m n p = rw (plus-plus (p .column .0) m n, plus-plus (p .byte .0) m n)
 
-quote-class : (d : Dialect) → (d .delimiterByte ≡ 0x22 → ⊥) → classOf d 0x22 ≡ quote
-unfolding classOf
-quote-class d e = rw (ne-eqb 0x22 (d .delimiterByte) (λ q. e (sym q)))
-
 -- a quote that may be the first of a pair, and the second behind it
-shut-step : (c : Check) → c .refusal ≡ 0 → c .form ≡ 3 → (c .delimiter ≡ 0x22 → ⊥) → fed c 0x22 ≡ placed (along 1 (c .here)) (entered 4 (c .mark) (c .used) (c .field) c)
+pub shut-step : (c : Check) → c .refusal ≡ 0 → c .form ≡ 3 → (c .delimiter ≡ 0x22 → ⊥) → fed c 0x22 ≡ placed (along 1 (c .here)) (entered 4 (c .mark) (c .used) (c .field) c)
 unfolding stepOf stepped moved
-shut-step c r f d = rw (fed-is c 0x22 quoted quote r f (quote-class (dialect (c .delimiter) (c .leniencies)) d), noted-none 0x22 c refl)
+shut-step c r f d = rw (fed-is c 0x22 quoted quote r f (quote-beside (dialect (c .delimiter) (c .leniencies)) d), noted-none 0x22 c refl)
 
 pair-step : (c : Check) → c .refusal ≡ 0 → c .form ≡ 3 → (c .delimiter ≡ 0x22 → ⊥) → fed (fed c 0x22) 0x22 ≡ jumped 3 (along 2 (c .here)) 1 c
 unfolding stepOf stepped jumped entered placed moved
@@ -205,7 +110,7 @@ pair-step c r f d =
     let e = placed (along 1 (c .here)) (entered 4 (c .mark) (c .used) (c .field) c) in
     let p : plus (plus (c .here .column .0) 1) 1 ≡ plus (c .here .column .0) 2 = omega arith in
     let q : plus (plus (c .here .byte .0) 1) 1 ≡ plus (c .here .byte .0) 2 = omega arith in
-    rw (shut-step c r f d, fed-is e 0x22 shut quote r refl (quote-class (dialect (c .delimiter) (c .leniencies)) d), noted-none 0x22 e refl, p, q)
+    rw (shut-step c r f d, fed-is e 0x22 shut quote r refl (quote-beside (dialect (c .delimiter) (c .leniencies)) d), noted-none 0x22 e refl, p, q)
 
 -- a run of bytes of which each is one jump is one jump
 module _
@@ -255,7 +160,7 @@ module _ (x sum : ℕ) where
   outside-step c o b e =
       let e′ : isPlain (dialect (c .delimiter) (c .leniencies)) b ≡ true = rw (o .delimiter, o .leniencies) e in
       by-form (c .form) refl (o .form) e′
-      ∙ ap (λ (p : Place). jumped 2 p 1 c) (moved-along b (c .here) (plain-lf (dialect x sum) b e))
+      ∙ ap (λ (p : Place). jumped 2 p 1 c) (moved-along b (c .here) (plain-no-lf (dialect x sum) b e))
     where
       by-form : (n : ℕ) → c .form ≡ n → n ≤ 2 → isPlain (dialect (c .delimiter) (c .leniencies)) b ≡ true → fed c b ≡ jumped 2 (moved b (c .here)) 1 c
       by-form zero f l i = text-step c b start (o .refusal) f refl i
@@ -267,13 +172,17 @@ module _ (x sum : ℕ) where
   unfolding jumped placed entered
   outside-keep c p m o = record { refusal = o .refusal; form = omega arith; delimiter = o .delimiter; leniencies = o .leniencies }
 
+pub one-text :
+    (c : Check) (b : ℕ) → c .refusal ≡ 0 → c .form ≤ 2 → isPlain (dialect (c .delimiter) (c .leniencies)) b ≡ true → fed c b ≡ jumped 2 (along 1 (c .here)) 1 c
+one-text c b r f e = outside-step (c .delimiter) (c .leniencies) c (record { refusal = r; form = f; delimiter = refl; leniencies = refl }) b e
+
 -- between quotes
 record Between (c : Check) : Type 0 where
   refusal : c .refusal ≡ 0
   form : c .form ≡ 3
 
 between-step : (c : Check) → Between c → (b : ℕ) → isInner b ≡ true → fed c b ≡ jumped 3 (along 1 (c .here)) 1 c
-between-step c o b e = inner-step c b (o .refusal) (o .form) e ∙ ap (λ (p : Place). jumped 3 p 1 c) (moved-along b (c .here) (inner-lf b e))
+between-step c o b e = inner-step c b (o .refusal) (o .form) e ∙ ap (λ (p : Place). jumped 3 p 1 c) (moved-along b (c .here) (inner-no-lf b e))
 
 between-keep : (c : Check) (p : Place) (m : ℕ) → Between c → Between (jumped 3 p m c)
 unfolding jumped placed entered
@@ -393,38 +302,9 @@ module _ (c : Check) (s : Bytes) (i k : ℕ) (inside : i ≤ length s) where
           same = text-leap s i k c more-than-none r f (omega arith);
         }
 
-    pub inner-leads :
-        c .form ≡ 3 → k ≡ run isInner (drop i s)
-        → Leads c s i (record { at = i + k; check = jumped 3 (along k (c .here)) k c }) × Still c (jumped 3 (along k (c .here)) k c)
-    unfolding jumped placed entered
-    inner-leads f e = (
-      record {
-        on = omega arith;
-        within = text-within _ e;
-        same = inner-leap s i k c more-than-none r f (omega arith);
-      },
-      record { refusal = r; form = refl; delimiter = refl },
-    )
-
-    pub pairs-leads :
-        c .form ≡ 3 → (c .delimiter ≡ 0x22 → ⊥) → k ≡ pairs (drop i s)
-        → Leads c s i (record { at = i + (k + k); check = jumped 3 (along (k + k) (c .here)) k c }) × Still c (jumped 3 (along (k + k) (c .here)) k c)
-    unfolding jumped placed entered
-    pairs-leads f d e = (
-      record {
-        on = omega arith;
-        within = pairs-within e;
-        same = pairs-leap s i k c more-than-none r f d (omega arith);
-      },
-      record { refusal = r; form = refl; delimiter = refl },
-    )
-
 pub leads-none : (c : Check) (s : Bytes) (i : ℕ) → i ≤ length s → Leads c s i (record { at = i; check = c })
 leads-none c s i h = record { on = omega arith; within = h; same = refl }
 
 -- one after the other
 pub leads-on : (c : Check) (s : Bytes) (i : ℕ) (q r : Reached) → Leads c s i q → Leads (q .check) s (q .at) r → Leads c s i r
 leads-on c s i q r g h = record { on = omega (arith, g .on, h .on); within = h .within; same = h .same ∙ g .same }
-
-pub still-on : (c d e : Check) → Still c d → Still d e → Still c e
-still-on c d e g h = record { refusal = h .refusal; form = h .form; delimiter = h .delimiter ∙ g .delimiter }

@@ -1,7 +1,9 @@
 pub mod Ahead
-pub mod Inside
+pub mod Closing
+pub mod Fields
 pub mod Jumps
-pub mod Quoting
-pub mod Records
-pub mod Search
+pub mod Passing
+pub mod Quoted
+pub mod Refused
 pub mod Stands
+pub mod Words

@@ -1,73 +1,25 @@
 -- What the walk over a piece promises.
-use Prim.Native.Nat.{ℕ, suc, _+_, _-_, _≤_, min}
+use Prim.Native.Nat.{ℕ, _+_, _-_, _≤_, _<_, min}
 use mathlib.Core.Path.{_≡_}
-use mathlib.Core.Bool.{cond, _&&_}
+use mathlib.Core.Bool.{cond, not}
 use lib.Dec.{eqb}
 use lib.ListN.{length, drop}
 use Rattle.format.specs.declared.Place.{Place}
 use Rattle.format.specs.Table.{Bytes}
-use Rattle.format.specs.Place.{place}
+use Rattle.format.specs.Dialect.{dialect}
+use Rattle.runs.specs.Runs.{run, isPlain}
 use Rattle.pieces.specs.declared.Check.{Check}
 use Rattle.pieces.specs.declared.Counts.{Counts}
 use Rattle.pieces.specs.declared.Reached.{Reached}
-use Rattle.pieces.specs.declared.Rows.{Rows}
-use Rattle.pieces.specs.Check.{counterLimit, plus, fedAll}
+use Rattle.pieces.specs.declared.Inside.{Inside}
+use Rattle.pieces.specs.declared.Walk.{Walk}
+use Rattle.pieces.specs.Check.{counterLimit, plus, newField, opened, placed, noting, fedAll, along, spot, jumped}
 
 -- the bytes of s from i on lead from the state c to where they lead from what is reached, further on
 pub record Leads (c : Check) (s : Bytes) (i : ℕ) (r : Reached) : Type 0 where
   pub on : i ≤ r .at
   pub within : r .at ≤ length s
   pub same : fedAll (r .check) (drop (r .at) s) ≡ fedAll c (drop i s)
-
--- between quotes as before
-pub record Still (c e : Check) : Type 0 where
-  pub refusal : e .refusal ≡ 0
-  pub form : e .form ≡ 3
-  pub delimiter : e .delimiter ≡ c .delimiter
-
--- before a record
-pub record Fresh (c : Check) : Type 0 where
-  pub refusal : c .refusal ≡ 0
-  pub form : c .form ≡ 0
-  pub begun : c .begun ≡ 0
-  pub content : c .field .content ≡ 0
-  pub held : c .field .held ≡ 0
-  pub number : c .field .number .0 ≡ 0
-
--- in a bare field of m bytes so far, behind k fields of its record
-abbrev pub mid : Check → Place → Place → Place → Counts → ℕ → ℕ → Check
-mid c here start mark s k m =
-    record {
-      delimiter = c .delimiter;
-      leniencies = c .leniencies;
-      refusal = 0;
-      form = cond (eqb m 0) 0 2;
-      begun = cond (eqb k 0 && eqb m 0) 0 1;
-      used = c .used;
-      here = here;
-      mark = mark;
-      field = record { start = start; content = min m counterLimit; held = 0; number = record { 0 = min k counterLimit } };
-      counts = s;
-    }
-
--- behind r records of n bytes with f fields, all of plain text and each as wide as the first
-unfoldable pub rowed : ℕ → ℕ → ℕ → Check → Check
-rowed r n f c =
-    mid c (place (plus (c .here .line .0) r) 1 (plus (c .here .byte .0) n)) (place (plus (c .here .line .0) r) 1 (plus (c .here .byte .0) n)) (place 0 0 0)
-    (record {
-      records = plus (c .counts .records) r;
-      fields = record { 0 = plus (c .counts .fields .0) f };
-      text = plus (c .counts .text) (n - f - r);
-      width = c .counts .width;
-    })
-    0 0
-
--- the records from a place on that are one jump
-pub record RowsAhead (c : Check) (s : Bytes) (at : ℕ) (r : Rows) : Type 0 where
-  pub on : at ≤ r .end
-  pub within : r .end ≤ length s
-  pub parts : r .fields + r .rows ≤ r .end - at
-  pub same : (r .rows ≡ 0 → ⊥) → fedAll (rowed (r .rows) (r .end - at) (r .fields) c) (drop (r .end) s) ≡ fedAll c (drop at s)
 
 -- between quotes, with no blanks held and every counter that a jump moves before its stop
 pub record Settled (c : Check) : Type 0 where
@@ -80,3 +32,110 @@ pub record Settled (c : Check) : Type 0 where
   pub line : c .here .line .0 ≤ counterLimit
   pub column : c .here .column .0 ≤ counterLimit
   pub byte : c .here .byte .0 ≤ counterLimit
+
+-- the bytes of s from a place on that are one jump between quotes, from any such state
+pub record Between (s : Bytes) (at : ℕ) (r : Inside) : Type 0 where
+  pub on : at ≤ r .end
+  pub within : r .end ≤ length s
+  pub content : at + r .content ≤ r .end
+  pub lines : at + r .lines ≤ r .end
+  pub tail : at + r .tail ≤ r .end
+  pub flat : r .lines ≡ 0 → at + r .tail ≡ r .end
+  pub same : (c : Check) → Settled c → fedAll (jumped 3 (spot (r .lines) (r .tail) (r .end - at) (c .here)) (r .content) c) (drop (r .end) s) ≡ fedAll c (drop at s)
+
+-- where the line begins on which they end, if that on which they begin does so at j
+abbrev pub lastLine : ℕ → Inside → ℕ
+lastLine j r = cond (eqb (r .lines) 0) j (r .end - r .tail)
+
+-- at the start of a field, with the counters that a walk may leave alone before their stop, in a piece whose length cannot carry a count over
+pub record Level (c : Check) (s : Bytes) : Type 0 where
+  pub short : length s ≤ 4294967295
+  pub refusal : c .refusal ≡ 0
+  pub form : c .form ≡ 0
+  pub content : c .field .content ≡ 0
+  pub held : c .field .held ≡ 0
+  pub no-cr : c .delimiter ≡ 0x0D → ⊥
+  pub no-lf : c .delimiter ≡ 0x0A → ⊥
+  pub no-quote : c .delimiter ≡ 0x22 → ⊥
+  pub line : c .here .line .0 ≤ counterLimit
+  pub records : c .counts .records ≤ counterLimit
+  pub width : c .counts .width ≤ counterLimit
+
+-- a walk at another place of the field in work, behind a field, and behind a record
+abbrev pub placedAt : Walk → ℕ → Walk
+placedAt x p = record { at = p; line = x .line; lines = x .lines; start = x .start; rows = x .rows; fields = x .fields; number = x .number; text = x .text }
+
+abbrev pub fieldOn : Walk → ℕ → ℕ → ℕ → ℕ → Walk
+fieldOn x next m line l = record { at = next; line = line; lines = l; start = next; rows = x .rows; fields = x .fields + 1; number = x .number + 1; text = x .text + m }
+
+abbrev pub rowOn : Walk → ℕ → ℕ → ℕ → Walk
+rowOn x next m l = record { at = next; line = next; lines = l + 1; start = next; rows = x .rows + 1; fields = x .fields + 1; number = 0; text = x .text + m }
+
+-- the start of the field in work, behind a walk from a over whole fields
+abbrev pub startOf : Walk → ℕ → Place → Place
+startOf x a p = spot (x .lines) (x .start - x .line) (x .start - a) p
+
+abbrev pub tallied : Walk → Counts → Counts
+tallied x s =
+    record {
+      records = plus (s .records) (x .rows);
+      fields = record { 0 = plus (s .fields .0) (x .fields) };
+      text = plus (s .text) (x .text);
+      width = s .width;
+    }
+
+unfoldable pub opening : Walk → ℕ → Check → Check
+opening x a c =
+    placed (startOf x a (c .here))
+    (opened (noting (not (eqb (x .number) 0)) 0) (c .used) (newField (startOf x a (c .here)) (min (x .number) counterLimit)) (tallied x (c .counts)) c)
+
+-- where the field in work begins: where the walk does, while no field is closed
+abbrev pub begun : Walk → ℕ → Check → Check
+begun x a c = cond (eqb (x .fields) 0) c (opening x a c)
+
+-- m bytes of text further on
+abbrev pub texted : ℕ → Check → Check
+texted m c = cond (eqb m 0) c (jumped 2 (along m (c .here)) m c)
+
+unfoldable pub walked : Walk → ℕ → Check → Check
+walked x a c = texted (x .at - x .start) (begun x a c)
+
+-- a walk at a byte of s, with counts that the byte's place bounds
+pub record Sized (x : Walk) (s : Bytes) : Type 0 where
+  pub inside : x .at < length s
+  pub short : length s ≤ 4294967295
+  pub from : x .start ≤ x .at
+  pub line : x .line ≤ x .start
+  pub lines : x .lines ≤ x .start
+  pub closed : x .fields + x .rows ≤ x .start
+  pub text : x .text ≤ x .start
+  pub number : x .number ≤ 4294967295 + x .start
+
+-- nothing closed yet
+pub record Unmoved (c : Check) (a : ℕ) (x : Walk) : Type 0 where
+  pub start : x .start ≡ a
+  pub line : x .line ≡ a
+  pub lines : x .lines ≡ 0
+  pub rows : x .rows ≡ 0
+  pub text : x .text ≡ 0
+  pub number : x .number ≡ c .field .number .0
+
+-- a walk over s from the state c at a on: the bytes before the field in work lead to its start, and those of the field are plain text so far
+pub record Walking (c : Check) (s : Bytes) (a : ℕ) (x : Walk) : Type 0 where
+  pub level : Level c s
+  pub within : x .at ≤ length s
+  pub from : x .start ≤ x .at
+  pub line : x .line ≤ x .start
+  pub on : a ≤ x .line
+  pub lines : x .lines ≤ x .start
+  pub closed : x .fields + x .rows ≤ x .start
+  pub text : x .text ≤ x .start
+  pub number : x .number ≤ 4294967295 + x .start
+  pub unmoved : x .fields ≡ 0 → Unmoved c a x
+  pub plain : x .at - x .start ≤ run (isPlain (dialect (c .delimiter) (c .leniencies))) (drop (x .start) s)
+  pub same : fedAll (begun x a c) (drop (x .start) s) ≡ fedAll c (drop a s)
+
+-- from a walk to one as far or further on
+pub record Goes (c : Check) (s : Bytes) (x r : Walk) : Type 0 where
+  pub on : x .at ≤ r .at
+  pub goes : (a : ℕ) → Walking c s a x → Walking c s a r

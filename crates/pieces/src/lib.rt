@@ -3,18 +3,19 @@
 // The state goes in and comes back by value, and holds numbers alone, so that any bit pattern is a
 // state. specs/Check.antt says what a byte does to it and what it answers, for every state;
 // specs/Answers.antt what a state stands for, and so what the answers mean.
-ghost use Prim.Native.Nat.{_+_, _-_, _≤_, min};
-ghost use lib.ListN.{length};
+ghost use Prim.Native.Nat.{_+_, _-_, _/_, _^_, _≤_, _<_, min};
+ghost use lib.ListN.{length, getD};
+ghost use mathlib.Core.Bool.{true};
 ghost use mathlib.Core.Path.{_≡_};
 ghost use Rattle.format.specs.Place.{place};
 ghost use Rattle.steps.specs.Model.{isValid};
 ghost use Rattle.steps.specs.Numbers.{stepTable};
 ghost use Rattle.pieces.specs.Answers.{Started, Fed, Asked};
 ghost use Rattle.pieces.specs.Check.{counterLimit, plus, moved, newField, started, stopped, entered, opened, placed, noting, onlyWide, noted, atEnd, oneField, asWide, oneRecord, fieldEnded, recordEnded, seenAt, grown, stepped, fed, fedAll, along, spot, jumped, bitIf, totalled, settledAnswer, asked};
-ghost use Rattle.pieces.specs.Walk.{Leads, Still, Settled, Fresh, rowed, RowsAhead};
+ghost use Rattle.pieces.specs.Walk.{Leads, Settled, Between, Level, Sized, Walking, Goes, lastLine, placedAt, fieldOn, rowOn, opening, begun, texted, walked};
 ghost use Rattle.format.specs.Dialect.{dialect};
-ghost use Rattle.runs.specs.Runs.{isInner};
-ghost use Rattle.runs.specs.Words.{Marks, Stops};
+ghost use Rattle.runs.specs.Runs.{isPlain};
+ghost use Rattle.runs.specs.Words.{Stops};
 use format::Answer;
 use format::ByteOffset;
 use format::Column;
@@ -74,11 +75,27 @@ struct Reached {
     check: Check,
 }
 
-// Records that are one jump: how many, where they end, and how many fields they have.
-struct Rows {
-    rows: usize,
+// Bytes between quotes that are one jump: where they end, how much content they are, the line feeds
+// among them, and the bytes behind the last of these, or all.
+struct Inside {
     end: usize,
+    content: usize,
+    lines: usize,
+    tail: usize,
+}
+
+// A walk over fields and records: the place reached, where its line begins, or the walk, and the line
+// feeds passed; where the field in work begins, in plain text so far; the records and fields closed,
+// the number of the field in work in its record, and the text of the fields closed.
+struct Walk {
+    at: usize,
+    line: usize,
+    lines: usize,
+    start: usize,
+    rows: usize,
     fields: usize,
+    number: usize,
+    text: usize,
 }
 
 // One past the file limit, where counters stop.
@@ -125,20 +142,6 @@ fn counted(n: usize) -> u32
     }
 }
 
-// How far it is from a place to another, if that is further on.
-fn left(i: usize, e: usize) -> usize
-    ensures { λ r. ⌜ r ≡ e - i ⌝ }
-{
-    if i < e { e - i } else { 0 }
-}
-
-// The later of two places.
-fn later(i: usize, e: usize) -> usize
-    ensures { λ r. ⌜ r ≡ i + (e - i) ⌝ }
-{
-    if i < e { e } else { i }
-}
-
 // The place n bytes on, on the same line.
 fn along(n: usize, p: Place) -> Place
     ensures { λ r. ⌜ r ≡ along n p ⌝ }
@@ -148,6 +151,130 @@ fn along(n: usize, p: Place) -> Place
     let column = Column(plus(p.column.0, k));
     let byte = ByteOffset(plus(p.byte.0, k));
     Place { line, column, byte }
+}
+
+// The place so many bytes on, behind so many line feeds and the tail behind the last of them.
+fn spot(lines: usize, tail: usize, bytes: usize, p: Place) -> Place
+    ensures { λ r. ⌜ r ≡ spot lines tail bytes p ⌝ }
+{
+    let from = if lines == 0 { p.column.0 } else { 1 };
+    let line = Line(plus(p.line.0, counted(lines)));
+    let column = Column(plus(from, counted(tail)));
+    let byte = ByteOffset(plus(p.byte.0, counted(bytes)));
+    Place { line, column, byte }
+}
+
+// The bytes, pairs of quotes and line feeds from a place on that are content between quotes.
+fn inside_from(s: &[u8], at: usize) -> Inside
+    requires { ⌜ at ≤ length (now s) ⌝ }
+    ensures { λ r. ⌜ Between (now (s .entry)) at r ⌝ }
+{
+    let mut i = at;
+    let mut content = 0;
+    let mut lines = 0;
+    let mut tail = 0;
+    while i < s.len() {
+        if s[i] == 0x0A {
+            i += 1;
+            content += 1;
+            lines += 1;
+            tail = 0;
+        } else {
+            let k = runs::inner_run(s, i);
+            let q = runs::pair_run(s, i + k);
+            let n = k + (q + q);
+            if n == 0 {
+                return Inside {
+                    end: i,
+                    content,
+                    lines,
+                    tail,
+                };
+            }
+            i += n;
+            content += k + q;
+            tail += n;
+        }
+    }
+    Inside {
+        end: i,
+        content,
+        lines,
+        tail,
+    }
+}
+
+// Where the line begins on which such bytes end, if that on which they begin does so at a place.
+fn last_line(line: usize, q: Inside) -> usize
+    requires { ⌜ q .tail ≤ q .end ⌝ }
+    ensures { λ r. ⌜ r ≡ lastLine line q ⌝ }
+{
+    if q.lines == 0 { line } else { q.end - q.tail }
+}
+
+// Whether a line break stands at a place.
+fn is_break(s: &[u8], at: usize) -> bool
+    requires { ⌜ at ≤ length (now s) ⌝ }
+    ensures { λ r. ⌜ (r ≡ true → (at + 1 < length (now (s .entry))) × (getD (now (s .entry)) at 0 ≡ 0x0D) × (getD (now (s .entry)) (at + 1) 0 ≡ 0x0A)) ⌝ }
+{
+    if s.len() - at < 2 {
+        return false;
+    }
+    if s[at] != 0x0D {
+        return false;
+    }
+    s[at + 1] == 0x0A
+}
+
+// A walk at another place of the field in work.
+fn placed_at(x: Walk, at: usize) -> Walk
+    ensures { λ r. ⌜ r ≡ placedAt x at ⌝ }
+{
+    let mut y = x;
+    y.at = at;
+    y
+}
+
+// A walk behind a field of so much content, where the next one begins, on a line that begins at a
+// place and behind so many line feeds.
+fn field_on(x: Walk, next: usize, content: usize, line: usize, lines: usize) -> Walk
+    requires { ⌜ (x .fields < 18446744073709551615) × (x .number < 18446744073709551615) × (x .text + content < 18446744073709551616) ⌝ }
+    ensures { λ r. ⌜ r ≡ fieldOn x next content line lines ⌝ }
+{
+    Walk {
+        at: next,
+        line,
+        lines,
+        start: next,
+        rows: x.rows,
+        fields: x.fields + 1,
+        number: x.number + 1,
+        text: x.text + content,
+    }
+}
+
+// A walk behind the last field of a record, where the next one begins.
+fn row_on(x: Walk, next: usize, content: usize, lines: usize) -> Walk
+    requires { ⌜ (x .fields < 18446744073709551615) × (x .rows < 18446744073709551615) × (x .text + content < 18446744073709551616) × (lines < 18446744073709551615) ⌝ }
+    ensures { λ r. ⌜ r ≡ rowOn x next content lines ⌝ }
+{
+    Walk {
+        at: next,
+        line: next,
+        lines: lines + 1,
+        start: next,
+        rows: x.rows + 1,
+        fields: x.fields + 1,
+        number: 0,
+        text: x.text + content,
+    }
+}
+
+// A word of marks without its first n.
+fn shifted(w: u64, n: usize) -> u64
+    ensures { λ r. ⌜ (n < 64 → r ≡ w / 2 ^ n) × (64 ≤ n → r ≡ 0) ⌝ }
+{
+    if n < 64 { w >> (n as u64) } else { 0 }
 }
 
 // The place that names nothing.
@@ -298,183 +425,94 @@ impl Check {
         }
     }
 
-    // The state behind one more piece: a byte, then as many as can be passed at once, and so on.
+    // The state behind one more piece: a byte, then as many as can be passed at once, and so on. The last
+    // ones of a piece, which may be all of it, are taken one by one.
     pub fn feed(self, piece: &[u8]) -> Check
         ensures { λ r. ⌜ Fed self (now (piece .entry)) r ⌝ }
     {
-        let t = steps::table();
-        let delimiter = self.delimiter;
-        let leniencies = self.leniencies;
-        let stops = runs::stop_table(delimiter, leniencies);
-        let inner = runs::inner_table();
         let mut c = self;
         let mut i = 0;
         while i < piece.len() {
-            let next = c.take(&t, piece[i]);
-            let r = next.passed(delimiter, leniencies, &stops, &inner, piece, i + 1);
-            c = r.check;
-            i = r.at;
+            c = c.taken(piece[i]);
+            i += 1;
+            if 32 <= piece.len() - i {
+                let r = c.passed(piece, i);
+                c = r.check;
+                i = r.at;
+            }
         }
         c
     }
 
-    // Passes the bytes from a place on that are one jump, none of them where there are none. The table
-    // is that of a dialect, which the state's should be.
-    fn passed(
-        self,
-        delimiter: u8,
-        leniencies: u8,
-        t: &[bool; 256],
-        inner: &[bool; 256],
-        s: &[u8],
-        at: usize,
-    ) -> Reached
+    // One byte more, text outside quotes by a short way.
+    fn taken(self, b: u8) -> Check
+        ensures { λ r. ⌜ r ≡ fed self b ⌝ }
+    {
+        if self.is_text(b) {
+            let here = self.here;
+            return self.jumped(2, along(1, here), 1);
+        }
+        let t = steps::table();
+        self.take(&t, b)
+    }
+
+    // Whether b is plain text outside quotes.
+    fn is_text(self, b: u8) -> bool
+        ensures { λ r. ⌜ (r ≡ true → (self .refusal ≡ 0) × (self .form ≤ 2) × (isPlain (dialect (self .delimiter) (self .leniencies)) b ≡ true)) ⌝ }
+    {
+        if self.refusal != 0 {
+            return false;
+        }
+        if 2 < self.form {
+            return false;
+        }
+        runs::is_plain(self.delimiter, self.leniencies, b)
+    }
+
+    // Passes the bytes from a place on that are one jump, none of them where there are none.
+    fn passed(self, s: &[u8], at: usize) -> Reached
         requires { ⌜ at ≤ length (now s) ⌝ }
-        requires { ⌜ Stops (now t) (dialect delimiter leniencies) ⌝ }
-        requires { ⌜ Marks (now inner) isInner ⌝ }
         ensures { λ r. ⌜ Leads self (now (s .entry)) at r ⌝ }
     {
         if self.refusal != 0 {
+            return self.pass_refused(s, at);
+        }
+        if self.form == 3 {
+            return self.pass_inside(s, at);
+        }
+        if 3 < self.form {
             return Reached { at, check: self };
         }
-        if self.begun == 0 {
-            if self.delimiter != delimiter {
-                return Reached { at, check: self };
-            }
-            if self.leniencies != leniencies {
-                return Reached { at, check: self };
-            }
-            return self.pass_rows(t, s, at);
+        if self.is_level(s) {
+            return self.pass_rows(s, at);
         }
-        if self.form <= 2 {
-            return self.pass_text(s, at);
-        }
-        if self.form != 3 {
-            return Reached { at, check: self };
-        }
-        if self.delimiter == 0x22 {
-            return self.pass_inner(s, at);
-        }
-        self.pass_inside(inner, s, at)
+        self.pass_text(s, at)
     }
 
-    // Passes records of plain text, each as wide as the first.
-    fn pass_rows(self, t: &[bool; 256], s: &[u8], at: usize) -> Reached
+    // Passes all bytes behind a refusal, which are only counted.
+    fn pass_refused(self, s: &[u8], at: usize) -> Reached
         requires { ⌜ at ≤ length (now s) ⌝ }
-        requires { ⌜ (self .refusal ≡ 0) × (self .begun ≡ 0) × Stops (now t) (dialect (self .delimiter) (self .leniencies)) ⌝ }
+        requires { ⌜ (self .refusal ≡ 0 → ⊥) ⌝ }
         ensures { λ r. ⌜ Leads self (now (s .entry)) at r ⌝ }
     {
-        if self.form != 0 {
+        if COUNTER_LIMIT < self.here.line.0 {
             return Reached { at, check: self };
         }
-        if self.field.content != 0 {
+        if COUNTER_LIMIT < self.here.column.0 {
             return Reached { at, check: self };
         }
-        if self.field.held != 0 {
+        if COUNTER_LIMIT < self.here.byte.0 {
             return Reached { at, check: self };
         }
-        if self.field.number.0 != 0 {
-            return Reached { at, check: self };
+        let lines = runs::line_feeds(s, at);
+        let tail = runs::since_lf(s, at);
+        let end = s.len();
+        let here = self.here;
+        let p = spot(lines, tail, end - at, here);
+        Reached {
+            at: end,
+            check: self.placed(p),
         }
-        let r = self.rows_from(t, s, at);
-        if r.rows == 0 {
-            return self.pass_text(s, at);
-        }
-        let end = r.end;
-        let check = self.rowed(r.rows, end - at, r.fields);
-        Reached { at: end, check }
-    }
-
-    // Finds such records, by words that mark the bytes which are no plain text.
-    fn rows_from(self, t: &[bool; 256], s: &[u8], at: usize) -> Rows
-        requires { ⌜ at ≤ length (now s) ⌝ }
-        requires { ⌜ Fresh self × Stops (now t) (dialect (self .delimiter) (self .leniencies)) ⌝ }
-        ensures { λ r. ⌜ RowsAhead self (now (s .entry)) at r ⌝ }
-    {
-        let mut found = Rows {
-            rows: 0,
-            end: at,
-            fields: 0,
-        };
-        if self.delimiter == 0x0D {
-            return found;
-        }
-        if self.delimiter == 0x0A {
-            return found;
-        }
-        if COUNTER_LIMIT < self.counts.width {
-            return found;
-        }
-        let mut i = at;
-        let mut start = at;
-        let mut number = 0;
-        let mut fields = 0;
-        let mut rows = 0;
-        while 64 <= s.len() - i {
-            let e = i + 64;
-            let mut w = runs::marks_64(t, s, i);
-            while w != 0 {
-                let k = u64::trailing_zeros(w);
-                let p = i + (k as usize);
-                if 4096 < p - start {
-                    return found;
-                }
-                w = w >> k >> 1;
-                if s[p] == self.delimiter {
-                    i = p + 1;
-                    start = i;
-                    number += 1;
-                    fields += 1;
-                } else {
-                    if s[p] != 0x0D {
-                        return found;
-                    }
-                    if number + 1 != self.counts.width as usize {
-                        return found;
-                    }
-                    if s.len() - p < 2 {
-                        return found;
-                    }
-                    if s[p + 1] != 0x0A {
-                        return found;
-                    }
-                    w = w >> 1;
-                    i = p + 2;
-                    start = i;
-                    number = 0;
-                    fields += 1;
-                    rows += 1;
-                    found = Rows {
-                        rows,
-                        end: i,
-                        fields,
-                    };
-                }
-            }
-            i = later(i, e);
-        }
-        found
-    }
-
-    // Behind r records of n bytes with f fields.
-    fn rowed(self, r: usize, n: usize, f: usize) -> Check
-        requires { ⌜ f + r ≤ n ⌝ }
-        ensures { λ e. ⌜ (Fresh self → e ≡ rowed r n f self) ⌝ }
-    {
-        let line = Line(plus(self.here.line.0, counted(r)));
-        let column = Column(1);
-        let byte = ByteOffset(plus(self.here.byte.0, counted(n)));
-        let here = Place { line, column, byte };
-        let fields = FieldNumber(plus(self.counts.fields.0, counted(f)));
-        let counts = Counts {
-            records: plus(self.counts.records, counted(r)),
-            fields,
-            text: plus(self.counts.text, counted(n - f - r)),
-            width: self.counts.width,
-        };
-        let used = self.used;
-        let x = new_field(here, 0);
-        self.opened(0, used, x, counts).placed(here)
     }
 
     // Passes plain text outside quotes.
@@ -492,158 +530,244 @@ impl Check {
         Reached { at: at + k, check }
     }
 
-    // Passes bytes between quotes, up to a quote or a line's end.
-    fn pass_inner(self, s: &[u8], at: usize) -> Reached
+    // Passes content between quotes.
+    fn pass_inside(self, s: &[u8], at: usize) -> Reached
         requires { ⌜ at ≤ length (now s) ⌝ }
         requires { ⌜ (self .refusal ≡ 0) × (self .form ≡ 3) ⌝ }
         ensures { λ r. ⌜ Leads self (now (s .entry)) at r ⌝ }
-        ensures { λ r. ⌜ Still self (r .check) ⌝ }
     {
-        let k = runs::inner_run(s, at);
-        if k == 0 {
+        if !self.is_settled() {
             return Reached { at, check: self };
         }
+        let q = inside_from(s, at);
+        let end = q.end;
         let here = self.here;
-        let check = self.jumped(3, along(k, here), k);
-        Reached { at: at + k, check }
+        let p = spot(q.lines, q.tail, end - at, here);
+        Reached {
+            at: end,
+            check: self.jumped(3, p, q.content),
+        }
     }
 
-    // Passes bytes, pairs of quotes and line feeds between quotes.
-    fn pass_inside(self, t: &[bool; 256], s: &[u8], at: usize) -> Reached
-        requires { ⌜ at ≤ length (now s) ⌝ }
-        requires { ⌜ (self .refusal ≡ 0) × (self .form ≡ 3) × (self .delimiter ≡ 0x22 → ⊥) × Marks (now t) isInner ⌝ }
-        ensures { λ r. ⌜ Leads self (now (s .entry)) at r ⌝ }
+    // Whether content between quotes is one jump from here.
+    fn is_settled(self) -> bool
+        ensures { λ r. ⌜ (r ≡ true → self .refusal ≡ 0 → self .form ≡ 3 → Settled self) ⌝ }
     {
+        if self.delimiter == 0x22 {
+            return false;
+        }
         if self.begun != 1 {
-            return Reached { at, check: self };
+            return false;
         }
         if self.field.held != 0 {
-            return Reached { at, check: self };
+            return false;
         }
         if COUNTER_LIMIT < self.field.content {
-            return Reached { at, check: self };
+            return false;
         }
         if COUNTER_LIMIT < self.here.line.0 {
-            return Reached { at, check: self };
+            return false;
         }
         if COUNTER_LIMIT < self.here.column.0 {
-            return Reached { at, check: self };
+            return false;
         }
-        if COUNTER_LIMIT < self.here.byte.0 {
-            return Reached { at, check: self };
-        }
-        if s.len() - at < 64 {
-            return self.pass_settled(s, at);
-        }
-        self.pass_marked(t, s, at)
+        self.here.byte.0 <= COUNTER_LIMIT
     }
 
-    // The same in blocks, by words that mark the bytes which are no such content.
-    fn pass_marked(self, t: &[bool; 256], s: &[u8], at: usize) -> Reached
+    // Whether fields and records are one jump from here: at the start of a field, in a piece whose
+    // length cannot carry a count over.
+    fn is_level(self, s: &[u8]) -> bool
+        ensures { λ r. ⌜ (r ≡ true → self .refusal ≡ 0 → Level self (now (s .entry))) ⌝ }
+    {
+        if 4294967295 < s.len() {
+            return false;
+        }
+        if self.form != 0 {
+            return false;
+        }
+        if self.field.content != 0 {
+            return false;
+        }
+        if self.field.held != 0 {
+            return false;
+        }
+        if self.delimiter == 0x0D {
+            return false;
+        }
+        if self.delimiter == 0x0A {
+            return false;
+        }
+        if self.delimiter == 0x22 {
+            return false;
+        }
+        if COUNTER_LIMIT < self.here.line.0 {
+            return false;
+        }
+        if COUNTER_LIMIT < self.counts.records {
+            return false;
+        }
+        self.counts.width <= COUNTER_LIMIT
+    }
+
+    // Passes fields and records.
+    fn pass_rows(self, s: &[u8], at: usize) -> Reached
         requires { ⌜ at ≤ length (now s) ⌝ }
-        requires { ⌜ Settled self × Marks (now t) isInner ⌝ }
+        requires { ⌜ Level self (now s) ⌝ }
         ensures { λ r. ⌜ Leads self (now (s .entry)) at r ⌝ }
     {
-        let mut i = at;
-        let mut content = 0;
-        let mut lines = 0;
-        let mut tail = 0;
-        while 64 <= s.len() - i {
-            let q = runs::pair_run(s, i);
-            i += q + q;
-            content += q;
-            tail += q + q;
-            if s.len() - i < 64 {
-                let check = self.inside(lines, tail, i - at, content);
-                return Reached { at: i, check };
-            }
-            let e = i + 64;
+        let t = runs::stop_table(self.delimiter, self.leniencies);
+        let x = self.walk(&t, s, at);
+        let end = x.at;
+        Reached {
+            at: end,
+            check: self.walked(x, at),
+        }
+    }
+
+    // Walks over fields and records, each as wide as the first, as far as they are one jump: by words
+    // that mark the bytes which are no plain text.
+    fn walk(self, t: &[bool; 256], s: &[u8], at: usize) -> Walk
+        requires { ⌜ at ≤ length (now s) ⌝ }
+        requires { ⌜ Level self (now s) × Stops (now t) (dialect (self .delimiter) (self .leniencies)) ⌝ }
+        ensures { λ r. ⌜ Walking self (now (s .entry)) at r ⌝ }
+    {
+        let mut x = Walk {
+            at,
+            line: at,
+            lines: 0,
+            start: at,
+            rows: 0,
+            fields: 0,
+            number: self.field.number.0 as usize,
+            text: 0,
+        };
+        while x.at < s.len() {
+            let i = x.at;
+            let e = runs::block_end(s, i);
             let mut w = runs::marks_64(t, s, i);
             while w != 0 {
                 let k = u64::trailing_zeros(w);
-                let n = k as usize;
-                let p = i + n;
-                w = w >> k >> 1;
-                if s[p] == 0x0A {
-                    i = p + 1;
-                    content += n + 1;
-                    lines += 1;
-                    tail = 0;
-                } else {
-                    if s[p] != 0x22 {
-                        let check = self.inside(lines, tail + n, p - at, content + n);
-                        return Reached { at: p, check };
-                    }
-                    if s.len() - p < 2 {
-                        let check = self.inside(lines, tail + n, p - at, content + n);
-                        return Reached { at: p, check };
-                    }
-                    if s[p + 1] != 0x22 {
-                        let check = self.inside(lines, tail + n, p - at, content + n);
-                        return Reached { at: p, check };
-                    }
-                    w = w >> 1;
-                    i = p + 2;
-                    content += n + 1;
-                    tail += n + 2;
+                let y = placed_at(x, x.at + (k as usize));
+                x = self.at_mark(y, s);
+                if x.at == y.at {
+                    return x;
                 }
+                w = shifted(w >> k, x.at - y.at);
             }
-            let n = left(i, e);
-            i += n;
-            content += n;
-            tail += n;
+            x = placed_at(x, runs::later(x.at, e));
         }
-        let check = self.inside(lines, tail, i - at, content);
-        Reached { at: i, check }
+        x
     }
 
-    // The same, in a state where that is one jump.
-    fn pass_settled(self, s: &[u8], at: usize) -> Reached
-        requires { ⌜ at ≤ length (now s) ⌝ }
-        requires { ⌜ Settled self ⌝ }
-        ensures { λ r. ⌜ Leads self (now (s .entry)) at r ⌝ }
+    // A walk behind the field that ends at the mark where it stands, and behind what ends it; or where it
+    // stands.
+    fn at_mark(self, x: Walk, s: &[u8]) -> Walk
+        requires { ⌜ Sized x (now s) ⌝ }
+        ensures { λ r. ⌜ Goes self (now (s .entry)) x r ⌝ }
     {
-        let mut i = at;
-        let mut content = 0;
-        let mut lines = 0;
-        let mut tail = 0;
-        while i < s.len() {
-            if s[i] == 0x0A {
-                i += 1;
-                content += 1;
-                lines += 1;
-                tail = 0;
-            } else {
-                let k = runs::inner_run(s, i);
-                let p = i + k;
-                let q = runs::pair_run(s, p);
-                let n = k + (q + q);
-                if n == 0 {
-                    return Reached {
-                        at: i,
-                        check: self.inside(lines, tail, i - at, content),
-                    };
-                }
-                i += n;
-                content += k + q;
-                tail += n;
-            }
+        let p = x.at;
+        let m = p - x.start;
+        if (format::CONTENT_LIMIT as usize) < m {
+            return x;
         }
-        Reached {
-            at: i,
-            check: self.inside(lines, tail, i - at, content),
+        let b = s[p];
+        if b == self.delimiter {
+            return field_on(x, p + 1, m, x.line, x.lines);
         }
+        if b == 0x22 {
+            return self.at_quote(x, s);
+        }
+        if x.number + 1 != self.counts.width as usize {
+            return x;
+        }
+        if !is_break(s, p) {
+            return x;
+        }
+        row_on(x, p + 2, m, x.lines)
     }
 
-    // Behind m bytes of content between quotes.
-    fn inside(self, lines: usize, tail: usize, bytes: usize, content: usize) -> Check
-        ensures { λ r. ⌜ r ≡ jumped 3 (spot lines tail bytes (self .here)) content self ⌝ }
+    // The same where the field begins with a quote at the mark.
+    fn at_quote(self, x: Walk, s: &[u8]) -> Walk
+        requires { ⌜ Sized x (now s) × (getD (now s) (x .at) 0 ≡ 0x22) ⌝ }
+        ensures { λ r. ⌜ Goes self (now (s .entry)) x r ⌝ }
     {
-        let from = if lines == 0 { self.here.column.0 } else { 1 };
-        let line = Line(plus(self.here.line.0, counted(lines)));
-        let column = Column(plus(from, counted(tail)));
-        let byte = ByteOffset(plus(self.here.byte.0, counted(bytes)));
-        self.jumped(3, Place { line, column, byte }, content)
+        let p = x.at;
+        if p != x.start {
+            return x;
+        }
+        let q = inside_from(s, p + 1);
+        let z = q.end;
+        if (format::CONTENT_LIMIT as usize) < q.content {
+            return x;
+        }
+        if s.len() - z < 2 {
+            return x;
+        }
+        if s[z] != 0x22 {
+            return x;
+        }
+        let lines = x.lines + q.lines;
+        if s[z + 1] == self.delimiter {
+            let line = last_line(x.line, q);
+            return field_on(x, z + 2, q.content, line, lines);
+        }
+        if x.number + 1 != self.counts.width as usize {
+            return x;
+        }
+        if !is_break(s, z + 1) {
+            return x;
+        }
+        row_on(x, z + 3, q.content, lines)
+    }
+
+    // The state behind a walk from a place: the field in work, and its text so far.
+    fn walked(self, x: Walk, at: usize) -> Check
+        requires { ⌜ (at ≤ x .line) × (x .line ≤ x .start) × (x .start ≤ x .at) ⌝ }
+        ensures { λ r. ⌜ r ≡ walked x at self ⌝ }
+    {
+        self.begun_by(x, at).texted(x.at - x.start)
+    }
+
+    // Behind m bytes of text outside quotes.
+    fn texted(self, m: usize) -> Check
+        ensures { λ r. ⌜ r ≡ texted m self ⌝ }
+    {
+        if m == 0 {
+            return self;
+        }
+        let here = self.here;
+        self.jumped(2, along(m, here), m)
+    }
+
+    // Where the field in work begins: where the walk does, while no field is closed.
+    fn begun_by(self, x: Walk, at: usize) -> Check
+        requires { ⌜ (at ≤ x .line) × (x .line ≤ x .start) ⌝ }
+        ensures { λ r. ⌜ r ≡ begun x at self ⌝ }
+    {
+        if x.fields == 0 {
+            return self;
+        }
+        self.opening(x, at)
+    }
+
+    // The start of the field in work behind a walk from a place.
+    fn opening(self, x: Walk, at: usize) -> Check
+        requires { ⌜ (at ≤ x .line) × (x .line ≤ x .start) ⌝ }
+        ensures { λ r. ⌜ r ≡ opening x at self ⌝ }
+    {
+        let here = self.here;
+        let p = spot(x.lines, x.start - x.line, x.start - at, here);
+        let fields = FieldNumber(plus(self.counts.fields.0, counted(x.fields)));
+        let counts = Counts {
+            records: plus(self.counts.records, counted(x.rows)),
+            fields,
+            text: plus(self.counts.text, counted(x.text)),
+            width: self.counts.width,
+        };
+        let begun = noting(x.number != 0, 0);
+        let used = self.used;
+        let f = new_field(p, counted(x.number));
+        self.opened(begun, used, f, counts).placed(p)
     }
 
     // Content of m bytes at once, and on to a form inside the field and to a place.

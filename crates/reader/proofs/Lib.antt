@@ -1,4 +1,5 @@
 pub mod Calls
+pub mod Content
 pub mod Copy
 pub mod Fields
 pub mod Flow

@@ -14,8 +14,7 @@ ghost use Rattle.steps.specs.Numbers.{formOf, stepTable, actOf};
 ghost use Rattle.reader.specs.Fill.{textIn, endsIn, rowsIn};
 ghost use Rattle.format.specs.Filling.{over};
 ghost use Rattle.reader.specs.Read.{Outcome};
-ghost use Rattle.reader.specs.Walk.{Before, Behind, Ready, Along, inner};
-ghost use Rattle.runs.specs.Runs.{run, isInner};
+ghost use Rattle.reader.specs.Walk.{Before, Behind, Ready, Along, Roomy, Inside, between, BreakAt, Opened, Closed};
 ghost use Rattle.runs.specs.Words.{Stops};
 ghost use Rattle.format.specs.declared.Answer.{the-variants.Taken, the-variants.Declined};
 ghost use Rattle.format.specs.Place.{place};
@@ -151,7 +150,7 @@ fn fill(
     }
 }
 
-// Passes what can be written at once: bare fields, or bytes between quotes.
+// Passes what can be written at once: fields of plain text, or what stands between quotes.
 fn passed(
     stops: &[bool; 256],
     file: &[u8],
@@ -174,9 +173,6 @@ fn passed(
         return p;
     }
     if p.form == 0 {
-        if file[at] == 0x22 {
-            return p;
-        }
         if delimiter == 0x0A {
             return p;
         }
@@ -185,37 +181,64 @@ fn passed(
     if p.form != 3 {
         return p;
     }
-    if !runs::is_inner(file[at]) {
+    if delimiter == 0x22 {
         return p;
     }
-    pass_inner(file, p, text)
+    pass_inside(file, p, text)
 }
 
-// Copies bytes between quotes.
-fn pass_inner(file: &[u8], p: Head, text: &mut [u8]) -> Head
-    requires { ⌜ (p .at ≤ length (now file)) × (length (now file) ≤ fileLimit) ⌝ }
-    requires { ⌜ p .text + run isInner (drop (p .at) (now file)) ≤ length (now text) ⌝ }
-    ensures { λ r. ⌜ r ≡ inner (run isInner (drop (p .at) (now (file .entry)))) p ⌝ }
-    ensures { λ r. ⌜ now (text .exit) ≡ sets (now (text .entry)) (p .text) (take (run isInner (drop (p .at) (now (file .entry)))) (drop (p .at) (now (file .entry)))) ⌝ }
+// Writes what stands between quotes, up to a byte that is not content in every dialect: runs of
+// bytes and LFs as they are, and one quote for each pair.
+fn pass_inside(file: &[u8], p: Head, text: &mut [u8]) -> Head
+    requires { ⌜ (p .at ≤ length (now file)) × (length (now file) ≤ fileLimit) × (p .text ≤ p .at) ⌝ }
+    requires { ⌜ Roomy (now file) (p .at) (p .text) (now text) ⌝ }
+    ensures { λ r. ⌜ r ≡ between (r .at) (r .text) p ⌝ }
+    ensures { λ r. ⌜ Inside (now (file .entry)) (p .at) (p .text) (now (text .entry)) (r .at) (r .text) (now (text .exit)) ⌝ }
 {
-    let k = runs::inner_run(file, p.at);
-    let from = p.at;
-    let end = copied(file, from, k, text, p.text);
-    let at = from + k;
+    let mut i = p.at;
+    let mut n = p.text;
+    while i < file.len() {
+        let k = runs::inner_run(file, i);
+        n = copied(file, i, k, text, n);
+        i += k;
+        if i == file.len() {
+            return quoted_at(p, i, n);
+        }
+        if file[i] == 0x0A {
+            text[n] = 0x0A;
+            n += 1;
+            i += 1;
+        } else {
+            let q = runs::pair_run(file, i);
+            if q == 0 {
+                return quoted_at(p, i, n);
+            }
+            let both = q + q;
+            n = put_run(text, n, q, 0x22);
+            i += both;
+        }
+    }
+    quoted_at(p, i, n)
+}
+
+// Between quotes, at a place of the file and of the text.
+fn quoted_at(p: Head, at: usize, text: usize) -> Head
+    ensures { λ r. ⌜ r ≡ between at text p ⌝ }
+{
     let begun = true;
     Head {
         at,
         form: 3,
         held: 0,
-        text: end,
+        text,
         ends: p.ends,
         rows: p.rows,
         begun,
     }
 }
 
-// Writes bare fields of plain text from the start of one on, each copied where its end is found, by
-// words that mark the bytes which are no plain text.
+// Writes fields of plain text, bare or quoted, from the start of one on, each copied where its end
+// is found, by words that mark the bytes which are no plain text.
 fn pass_fields(
     stops: &[bool; 256],
     file: &[u8],
@@ -237,13 +260,14 @@ fn pass_fields(
     let mut m = p.ends;
     let mut r = p.rows;
     let mut begun = p.begun;
-    while 64 <= file.len() - i {
-        let e = i + 64;
+    while i < file.len() {
+        let e = runs::block_end(file, i);
         let mut w = runs::marks_64(stops, file, i);
         while w != 0 {
             let k = u64::trailing_zeros(w);
             let q = i + (k as usize);
             w = w >> k >> 1;
+            let f = field_start(p, start, n, m, r, begun);
             if file[q] == delimiter {
                 n = copied(file, start, q - start, text, n);
                 ends[m] = n as u32;
@@ -251,15 +275,29 @@ fn pass_fields(
                 i = q + 1;
                 start = i;
                 begun = true;
+            } else if file[q] == 0x22 {
+                if q != start {
+                    return f;
+                }
+                if w == 0 {
+                    return f;
+                }
+                let l = u64::trailing_zeros(w);
+                let z = q + 1 + (l as usize);
+                let s = pass_quoted(file, delimiter, leniencies, f, z, text, ends, rows);
+                if s.at == start {
+                    return s;
+                }
+                w = w >> l >> ((s.at - z) as u32);
+                n = s.text;
+                m = s.ends;
+                r = s.rows;
+                i = s.at;
+                start = i;
+                begun = s.begun;
             } else {
-                if file[q] != 0x0D {
-                    return field_start(p, start, n, m, r, begun);
-                }
-                if file.len() - q < 2 {
-                    return field_start(p, start, n, m, r, begun);
-                }
-                if file[q + 1] != 0x0A {
-                    return field_start(p, start, n, m, r, begun);
+                if !is_break(file, q) {
+                    return f;
                 }
                 w = w >> 1;
                 n = copied(file, start, q - start, text, n);
@@ -272,9 +310,66 @@ fn pass_fields(
                 begun = false;
             }
         }
-        i = later(i, e);
+        i = runs::later(i, e);
     }
     field_start(p, start, n, m, r, begun)
+}
+
+// Writes a quoted field of plain text, from the quote at p to the next mark at z, where that is its
+// closing quote and the field ends behind it.
+fn pass_quoted(
+    file: &[u8],
+    delimiter: u8,
+    leniencies: u8,
+    p: Head,
+    z: usize,
+    text: &mut [u8],
+    ends: &mut [u32],
+    rows: &mut [u32],
+) -> Head
+    requires { ⌜ Opened (dialect delimiter leniencies) (now file) p z ⌝ }
+    requires { ⌜ Ready (dialect delimiter leniencies) (now file) p (now text) (now ends) (now rows) ⌝ }
+    ensures { λ r. ⌜ Along (dialect delimiter leniencies) (now (file .entry)) p (now (text .entry)) (now (ends .entry)) (now (rows .entry)) r (now (text .exit)) (now (ends .exit)) (now (rows .exit)) ⌝ }
+    ensures { λ r. ⌜ Closed p z r ⌝ }
+{
+    if file[z] != 0x22 {
+        return p;
+    }
+    let behind = z + 1;
+    if behind == file.len() {
+        return p;
+    }
+    let from = p.at + 1;
+    let m = p.ends;
+    if file[behind] == delimiter {
+        let n = copied(file, from, z - from, text, p.text);
+        ends[m] = n as u32;
+        return field_start(p, z + 2, n, m + 1, p.rows, true);
+    }
+    if !is_break(file, behind) {
+        return p;
+    }
+    let r = p.rows;
+    let n = copied(file, from, z - from, text, p.text);
+    ends[m] = n as u32;
+    rows[r] = (m + 1) as u32;
+    field_start(p, z + 3, n, m + 1, r + 1, false)
+}
+
+// Whether a CR and an LF stand at a place.
+fn is_break(file: &[u8], at: usize) -> bool
+    ensures { λ r. ⌜ (r ≡ true → BreakAt (now (file .entry)) at) ⌝ }
+{
+    if file.len() < 2 {
+        return false;
+    }
+    if file.len() - 2 < at {
+        return false;
+    }
+    if file[at] != 0x0D {
+        return false;
+    }
+    file[at + 1] == 0x0A
 }
 
 // The start of a field at another place than p, which is one too.
@@ -290,13 +385,6 @@ fn field_start(p: Head, at: usize, text: usize, ends: usize, rows: usize, begun:
         rows,
         begun,
     }
-}
-
-// The later of two places.
-fn later(i: usize, e: usize) -> usize
-    ensures { λ r. ⌜ r ≡ i + (e - i) ⌝ }
-{
-    if i < e { e } else { i }
 }
 
 // Copies so many bytes of the file to a place of the text, and says where they end there.
@@ -415,21 +503,21 @@ fn put_text(p: Head, b: u8, text: &mut [u8]) -> usize
     ensures { λ r. ⌜ r ≡ p .text + p .held + 1 ⌝ }
     ensures { λ r. ⌜ now (text .exit) ≡ set (sets (now (text .entry)) (p .text) (replicate (p .held) 0x20)) (p .text + p .held) b ⌝ }
 {
-    let at = put_blanks(text, p.text, p.held);
+    let at = put_run(text, p.text, p.held, 0x20);
     text[at] = b;
     at + 1
 }
 
-// Writes blanks from a place on, and says where they end.
-fn put_blanks(text: &mut [u8], at: usize, count: usize) -> usize
+// Writes a byte so many times from a place on, and says where that ends.
+fn put_run(text: &mut [u8], at: usize, count: usize, b: u8) -> usize
     requires { ⌜ at + count ≤ length (now text) ⌝ }
     ensures { λ r. ⌜ r ≡ at + count ⌝ }
-    ensures { λ r. ⌜ now (text .exit) ≡ sets (now (text .entry)) at (replicate count 0x20) ⌝ }
+    ensures { λ r. ⌜ now (text .exit) ≡ sets (now (text .entry)) at (replicate count b) ⌝ }
 {
     let mut i = at;
     let mut left = count;
     while 0 < left {
-        text[i] = 0x20;
+        text[i] = b;
         i += 1;
         left -= 1;
     }

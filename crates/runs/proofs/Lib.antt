@@ -1,2 +1,4 @@
+pub mod Bytes
+pub mod Lines
 pub mod Runs
 pub mod Words

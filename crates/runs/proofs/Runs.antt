@@ -8,7 +8,7 @@ use mathlib.Core.List.{[], _∷_}
 use lib.ListN.{length, getD, drop, drop-of-length-le, length-drop}
 use borrow.Author.Tests.{ne-eqb}
 use lib.Dec.{eqb}
-use lib.Seq.{drop-cons, drop-drop}
+use lib.Seq.{drop-cons, drop-drop, getD-drop}
 use Rattle.format.specs.Table.{Bytes}
 use Rattle.runs.specs.Runs.{run, pairs}
 
@@ -59,6 +59,35 @@ pairs-le (a ∷ (b ∷ f)) = go (eqb a 0x22 && eqb b 0x22) (pairs-le f)
     go : (x : Bool) → pairs f + pairs f ≤ length f → cond x (suc (pairs f)) 0 + cond x (suc (pairs f)) 0 ≤ suc (suc (length f))
     go true h = omega arith
     go false h = omega arith
+
+-- each byte of a run has the property, and the byte behind it has not
+module _ (p : ℕ → Bool) where
+  front-holds : (f : Bytes) (k : ℕ) → k < run p f → p (getD f k 0) ≡ true
+  unfolding run
+  front-holds [] k h = absurd (omega arith)
+  front-holds (b ∷ f) k h = go (p b) k refl h (λ j l. front-holds f j l)
+    where
+      go : (x : Bool) (k : ℕ) → p b ≡ x → k < cond x (suc (run p f)) 0 → ((j : ℕ) → j < run p f → p (getD f j 0) ≡ true) → p (getD (b ∷ f) k 0) ≡ true
+      go true zero e l ih = e
+      go true (suc j) e l ih = ih j (omega arith)
+      go false k e l ih = absurd (omega arith)
+
+  front-ends : (f : Bytes) → run p f < length f → p (getD f (run p f) 0) ≡ false
+  unfolding run
+  front-ends [] h = absurd (omega arith)
+  front-ends (b ∷ f) h = go (p b) refl h (λ l. front-ends f l)
+    where
+      go :
+          (x : Bool) → p b ≡ x → cond x (suc (run p f)) 0 < suc (length f) → (run p f < length f → p (getD f (run p f) 0) ≡ false)
+          → p (getD (b ∷ f) (cond x (suc (run p f)) 0) 0) ≡ false
+      go true e l ih = ih (omega arith)
+      go false e l ih = e
+
+  pub run-holds : (s : Bytes) (i k : ℕ) → k < run p (drop i s) → p (getD s (i + k) 0) ≡ true
+  run-holds s i k h = rw (getD-drop i s k 0) at (front-holds (drop i s) k h)
+
+  pub run-ends : (s : Bytes) (i : ℕ) → i + run p (drop i s) < length s → p (getD s (i + run p (drop i s)) 0) ≡ false
+  run-ends s i h = rw (getD-drop i s (run p (drop i s)) 0) at (front-ends (drop i s) (rw (length-drop i s) (omega arith)))
 
 -- a walk from a place stands at i: what is passed and the run that is left come to the whole run
 abbrev pub Passed : (ℕ → Bool) → Bytes → ℕ → ℕ → Type 0

@@ -7,10 +7,11 @@ use mathlib.Core.Path.{_≡_, refl, _∙_, ap, ap₂, sym}
 use mathlib.Core.Bool.{Bool, true, false, cond, not}
 use mathlib.Core.List.{List, [], _∷_, _++_}
 use lib.Count.{trailingZeros, under}
-use lib.ListN.{length, take, drop, getD, length-drop, length-take, drop-of-length-le}
+use lib.ListN.{length, take, drop, getD, set, length-drop, length-take, length-set, drop-of-length-le}
 use lib.Pow.{pow-mono, shr-shr}
-use lib.Seq.{drop-cons, getD-take, getD-drop, length-take-le, take-add, take-all, take-nil, drop-drop}
+use lib.Seq.{drop-cons, getD-take, getD-drop, length-take-le, take-add, take-all, take-nil, drop-drop, ext-getD, getD-set-same, getD-set-other}
 use lib.Dec.{leb}
+use borrow.Author.Count.{below-more}
 use borrow.Author.Tests.{leb-true, leb-false}
 use Rattle.format.specs.Table.{Bytes}
 use Rattle.runs.specs.Runs.{run}
@@ -153,6 +154,23 @@ unmarked-has t p h b l e = go (p b) (ap not (sym (h b l)) ∙ e)
     go true q = refl
     go false q = q
 
+-- a table that is marked below i, and one entry more
+abbrev pub MarkedBelow : (ℕ → Bool) → ℕ → List Bool → Type 0
+MarkedBelow p i t = (i ≤ 256) × (length t ≡ 256) × ((b : ℕ) → b < i → getD t b false ≡ not (p b))
+
+pub marked-more : (p : ℕ → Bool) (i : ℕ) (t : List Bool) (v : Bool) → MarkedBelow p i t → i < 256 → v ≡ not (p i) → MarkedBelow p (i + 1) (set t i v)
+marked-more p i t v h l e = (
+  omega arith,
+  length-set t i v ∙ h .1,
+  below-more (λ (b : ℕ). getD (set t i v) b false ≡ not (p b)) i
+      (λ b q. getD-set-other t i b v false (λ r. omega arith) ∙ h .2 b q)
+      (getD-set-same t i v false (omega (arith, h .1)) ∙ e),
+)
+
+-- the marks of a property are one table
+pub one-table : (t u : List Bool) (p : ℕ → Bool) → Marks t p → Marks u p → length t ≡ 256 → length u ≡ 256 → t ≡ u
+one-table t u p h k l m = ext-getD false t u (l ∙ sym m) (λ b q. h b (omega arith) ∙ sym (k b (omega arith)))
+
 drop-take : (k n : ℕ) (s : Bytes) → drop k (take n s) ≡ take (n - k) (drop k s)
 drop-take zero n s = ap (λ (j : ℕ). take j s) (none n)
   where
@@ -196,6 +214,11 @@ module _ (t : List Bool) (p : ℕ → Bool) (marks : Marks t p) (s : Bytes) (byt
       let m : trailingZeros 64 w ≡ run (unmarked t) (take (e - i) (drop i s)) =
       ap (trailingZeros 64) h ∙ first-word t (take (e - i) (drop i s)) 64 (omega (arith, block-length b)) q in
       (omega (arith, m, q, block-length b), omega (arith, m, text-le))
+
+-- behind the end there are no marks
+pub marked-past : (t : List Bool) (s : Bytes) (e i : ℕ) → e ≤ i → Marked t s e i 0
+unfolding word
+marked-past t s e i h = let z : e - i ≡ 0 = omega arith in rw z
 
 -- the block from a place on: it is within the part and of at most 64 bytes, and the word of 64 marks is its own
 pub record Block (t : List Bool) (s : Bytes) (i w : ℕ) : Type 0 where

@@ -6,6 +6,7 @@ ghost use mathlib.Core.Bool.{true};
 ghost use Prim.Native.Nat.{ℕ, _+_, _-_, _<_, _≤_};
 ghost use lib.ListN.{length, getD, take, drop};
 ghost use Rattle.format.specs.Dialect.{dialect};
+ghost use Rattle.format.specs.Place.{lineFeeds, sinceLf};
 ghost use Rattle.runs.specs.Runs.{run, isPlain, isInner, pairs};
 ghost use Rattle.runs.specs.Words.{bit, word, blockEnd, Marks, Stops};
 
@@ -195,6 +196,39 @@ pub fn block_end(s: &[u8], at: usize) -> usize
         return s.len();
     }
     at + 64
+}
+
+// How many line feeds stand from a place on.
+pub fn line_feeds(s: &[u8], from: usize) -> usize
+    ensures { λ r. ⌜ r ≡ lineFeeds (drop from (now (s .entry))) ⌝ }
+{
+    let mut feeds = 0;
+    let mut k = from;
+    while k < s.len() {
+        feeds += one(s[k] == 0x0A);
+        k += 1;
+    }
+    feeds
+}
+
+fn one(x: bool) -> usize
+    ensures { λ r. ⌜ (r ≡ bit x) × (r ≤ 1) ⌝ }
+{
+    if x { 1 } else { 0 }
+}
+
+// How many bytes stand behind the last line feed from a place on, or all where there is none.
+pub fn since_lf(s: &[u8], from: usize) -> usize
+    ensures { λ r. ⌜ r ≡ length (sinceLf (drop from (now (s .entry)))) ⌝ }
+{
+    let mut first = s.len();
+    while from < first {
+        if s[first - 1] == 0x0A {
+            return s.len() - first;
+        }
+        first -= 1;
+    }
+    s.len() - first
 }
 
 // The later of two places.

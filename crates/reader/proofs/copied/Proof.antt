@@ -1,5 +1,5 @@
 -- `reader::copied` meets its contract.
-use Prim.Native.Nat.{_+_, _-_}
+use Prim.Native.Nat.{_-_}
 use mathlib.Core.Path.{refl}
 use native.Mathlib.Omega.{arith}
 use Rattle.reader.proofs.Copy.{Copied, copied-start, copied-more, copied-all}

@@ -3,8 +3,8 @@ use borrow.Author.Needs.{needs}
 use Rattle.reader.proofs.put_text.Statement.{statement}
 use Rattle.reader.proofs.put_text.Tie as tie
 
-put-blanks-requires : tie.Need-put-blanks-requires
-put-blanks-requires c κs = search needs
+put-run-requires : tie.Need-put-run-requires
+put-run-requires c κs = search needs
 
 slice-write-text : tie.Need-slice-write-text
 slice-write-text c = search needs
@@ -17,9 +17,9 @@ same-length c = search needs
 
 returns : tie.Need-returns
 returns c =
-    let b = c .before .before .put-blanks in
+    let b = c .before .before .put-run in
     (rw (b .ensures .0), rw (b .ensures .0, b .ensures .1))
 
 pub put-text-spec : {M : Type 1} → statement M
 put-text-spec =
-    tie.close (tie.spec put-blanks-requires slice-write-text add-result same-length returns)
+    tie.close (tie.spec put-run-requires slice-write-text add-result same-length returns)

@@ -29,41 +29,44 @@ high-case false false a h = refl
 
 returns : tie.Need-returns
 unfolding isPlain classOf
-returns c = rw (eq-eqb _ _ (c .if1 .taken))
+returns c = let a = c .before .args in rw (eq-eqb (a .b) (a .delimiter) (c .if1 .taken))
 
 returns-2 : tie.Need-returns-2
 unfolding isPlain classOf
-returns-2 c = rw (ne-eqb _ _ (c .before .if1 .left), c .if2 .taken)
+returns-2 c = let a = c .before .before .args in rw (ne-eqb (a .b) (a .delimiter) (c .before .if1 .left), c .if2 .taken)
 
 returns-3 : tie.Need-returns-3
 unfolding isPlain classOf
-returns-3 c = rw (ne-eqb _ _ (c .before .before .if1 .left), c .if3 .taken) (blank-case (names (c .before .before .before .args .leniencies) blanks))
+returns-3 c =
+    let a = c .before .before .before .args in
+    rw (ne-eqb (a .b) (a .delimiter) (c .before .before .if1 .left), c .if3 .taken) (blank-case (names (a .leniencies) blanks))
 
 returns-4 : tie.Need-returns-4
 unfolding isPlain classOf
 returns-4 c =
+    let a = c .before .before .before .before .args in
     rw (
-      ne-eqb _ _ (c .before .before .before .if1 .left),
-      ne-eqb _ _ (c .before .before .if2 .left),
-      ne-eqb _ _ (c .before .if3 .left),
-      lt-leb 0x21 _ (c .if4 .taken),
+      ne-eqb (a .b) (a .delimiter) (c .before .before .before .if1 .left),
+      ne-eqb (a .b) 0x22 (c .before .before .if2 .left),
+      ne-eqb (a .b) 0x20 (c .before .if3 .left),
+      lt-leb 0x21 (a .b) (c .if4 .taken),
     )
-    (let b = c .before .before .before .before .args .b in low-case (eqb b 0x0D) (eqb b 0x0A) (isWide b) (names (c .before .before .before .before .args .leniencies) bytes))
+    (low-case (eqb (a .b) 0x0D) (eqb (a .b) 0x0A) (isWide (a .b)) (names (a .leniencies) bytes))
 
 returns-5 : tie.Need-returns-5
 unfolding isPlain classOf
 returns-5 c =
-    let b = c .before .before .before .before .args .b in
+    let a = c .before .before .before .before .args in
     let h = c .if4 .left in
     rw (
-      ne-eqb _ _ (c .before .before .before .if1 .left),
-      ne-eqb _ _ (c .before .before .if2 .left),
-      ne-eqb _ _ (c .before .if3 .left),
-      ne-eqb b 0x0D (λ e. omega arith),
-      ne-eqb b 0x0A (λ e. omega arith),
-      le-leb 0x21 b h,
+      ne-eqb (a .b) (a .delimiter) (c .before .before .before .if1 .left),
+      ne-eqb (a .b) 0x22 (c .before .before .if2 .left),
+      ne-eqb (a .b) 0x20 (c .before .if3 .left),
+      ne-eqb (a .b) 0x0D (λ e. omega arith),
+      ne-eqb (a .b) 0x0A (λ e. omega arith),
+      le-leb 0x21 (a .b) h,
     )
-    (high-case (leb b 0x7E) (isWide b) (names (c .before .before .before .before .args .leniencies) bytes) (λ e. let l = leb-true b 0x7E e in rw (ne-eqb b 0x09 (λ q. omega arith), lt-leb 0x80 b (omega arith))))
+    (high-case (leb (a .b) 0x7E) (isWide (a .b)) (names (a .leniencies) bytes) (λ e. let l = leb-true (a .b) 0x7E e in rw (ne-eqb (a .b) 0x09 (λ q. omega arith), lt-leb 0x80 (a .b) (omega arith))))
 
 pub is-plain-spec : {M : Type 1} → statement M
 is-plain-spec = tie.close (tie.spec returns returns-2 returns-3 returns-4 returns-5)

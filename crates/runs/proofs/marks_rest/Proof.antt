@@ -8,9 +8,6 @@ use Rattle.runs.specs.Words.{word}
 use Rattle.runs.proofs.Words.{bit-le, word-none, rest-room, rest-more, rest-all}
 use Rattle.runs.proofs.marks_rest.Statement.{statement}
 use Rattle.runs.proofs.marks_rest.Tie as tie
-use Rattle.runs.proofs.marks_rest.Reads as reads
-use Rattle.runs.proofs.marks_rest.Lts as lts
-use Rattle.runs.proofs.bit.Reads as bit-reads
 
 abbrev Inv-loop : tie.InvT-loop
 Inv-loop t s at w₀ i₀ w i = (i ≤ length s) × (length s < at + 64) × (w ≡ word t (drop i s)) × (length s - i ≤ length s - at)

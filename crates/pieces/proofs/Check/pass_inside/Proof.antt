@@ -1,69 +1,42 @@
 -- `pieces::Check::pass_inside` meets its contract.
-use Rattle.pieces.specs.Walk.{Settled}
+use borrow.Author.Tests.{not-false}
 use borrow.Author.Needs.{needs}
 use Rattle.pieces.proofs.Check.pass_inside.Statement.{statement}
 use Rattle.pieces.proofs.Check.pass_inside.Tie as tie
 
+is-settled-requires : tie.Need-is-settled-requires
+is-settled-requires c κs = search needs
+
 returns : tie.Need-returns
 returns c = search needs
 
+inside-from-requires : tie.Need-inside-from-requires
+inside-from-requires c κs = search needs
+
+sub-spot : tie.Need-sub-spot
+sub-spot c = search needs
+
+spot-requires : tie.Need-spot-requires
+spot-requires c κs = search needs
+
+jumped-requires : tie.Need-jumped-requires
+jumped-requires c κs = search needs
+
 returns-2 : tie.Need-returns-2
-returns-2 c = search needs
-
-returns-3 : tie.Need-returns-3
-returns-3 c = search needs
-
-returns-4 : tie.Need-returns-4
-returns-4 c = search needs
-
-returns-5 : tie.Need-returns-5
-returns-5 c = search needs
-
-returns-6 : tie.Need-returns-6
-returns-6 c = search needs
-
-sub-if7 : tie.Need-sub-if7
-sub-if7 c = search needs
-
-settled-at : (x : tie.Else6) → Settled (x .before .before .before .before .before .before .before .before .before .before .before .before .before .args .self)
-settled-at x =
-    let a = x .before .before .before .before .before .before .before .before .before .before .before .before .before .pre in
-    record {
-      refusal = a .1 .0;
-      form = a .1 .1;
-      other = a .1 .2;
-      begun = x .before .before .before .before .before .before .before .before .before .before .if1 .left;
-      held = x .before .before .before .before .before .before .before .before .if2 .left;
-      content = x .before .before .before .before .before .before .if3 .left;
-      line = x .before .before .before .before .if4 .left;
-      column = x .before .before .if5 .left;
-      byte = x .if6 .left;
-    }
-
-pass-settled-requires : tie.Need-pass-settled-requires
-pass-settled-requires c κs = (c .before .before .before .before .before .before .before .before .before .before .before .before .before .before .pre .0, settled-at (c .before))
-
-returns-7 : tie.Need-returns-7
-returns-7 c = search needs
-
-pass-marked-requires : tie.Need-pass-marked-requires
-pass-marked-requires c κs = (c .before .before .before .before .before .before .before .before .before .before .before .before .before .before .pre .0, (settled-at (c .before), c .before .before .before .before .before .before .before .before .before .before .before .before .before .before .pre .1 .3))
-
-returns-8 : tie.Need-returns-8
-returns-8 c = search needs
+returns-2 c =
+    let a = c .before .before .before .before .before .before .before in
+    let r = c .before .before .before .inside-from in
+    let settled = c .before .before .before .before .before .is-settled .ensures (not-false _ (c .before .before .before .before .if1 .left)) (a .pre .1 .0) (a .pre .1 .1) in
+    rw (c .jumped .ensures, c .before .spot .ensures) (record { on = r .ensures .on; within = r .ensures .within; same = r .ensures .same (a .args .self) settled })
 
 pub pass-inside-spec : {M : Type 1} → statement M
 pass-inside-spec =
     tie.close
     (tie.spec
+    is-settled-requires
     returns
-    returns-2
-    returns-3
-    returns-4
-    returns-5
-    returns-6
-    sub-if7
-    pass-settled-requires
-    returns-7
-    pass-marked-requires
-    returns-8)
+    inside-from-requires
+    sub-spot
+    spot-requires
+    jumped-requires
+    returns-2)

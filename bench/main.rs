@@ -1,0 +1,165 @@
+//! Times our check and our whole read beside an ordinary check and csv-core's whole read. The answers
+//! are compared first. A time is the least of several turns, with each job once in each turn.
+
+mod agree;
+mod inputs;
+mod ordinary;
+mod other;
+mod ours;
+
+use inputs::{Input, INPUTS, LIMIT};
+use ours::Buffers;
+use std::time::Instant;
+
+/// Turns on each input, and as many more as the seconds allow.
+const TURNS: usize = 7;
+
+/// The jobs in the order of the table.
+const ORDINARY: usize = 0;
+const CHECK: usize = 1;
+const CSV_CORE: usize = 2;
+const READ: usize = 3;
+const JOBS: [&str; 4] = ["ordinary check", "our check", "csv-core read", "our read"];
+
+/// Seconds of each job on an input; infinite where there is no such job.
+struct Times {
+    input: &'static str,
+    bytes: usize,
+    least: [f64; 4],
+}
+
+/// The bars: an input, two jobs, and the most that the ratio of their times should be. The first is the
+/// ordinary check's own: the ratios to it count only if it is at least half as fast as csv-core.
+const BARS: [(&str, usize, usize, f64); 9] = [
+    (inputs::SHORT, ORDINARY, CSV_CORE, 2.0),
+    (inputs::SHORT, CHECK, ORDINARY, 0.65),
+    (inputs::REMARKS, CHECK, ORDINARY, 0.75),
+    (inputs::QUOTES, CHECK, ORDINARY, 0.5),
+    (inputs::LINES, CHECK, ORDINARY, 0.6),
+    (inputs::SHORT, READ, CSV_CORE, 1.7),
+    (inputs::QUOTED, READ, CSV_CORE, 1.7),
+    (inputs::REMARKS, READ, CSV_CORE, 1.7),
+    (inputs::LINES, READ, CSV_CORE, 1.7),
+];
+
+fn main() {
+    let seconds = std::env::args()
+        .nth(1)
+        .map_or(4, |n| n.parse().expect("SECONDS is a number"));
+    println!("{}", agree::on_small_files());
+    println!(
+        "16 MiB each, the least of {TURNS} turns or more in {seconds} s, buffers cleared before."
+    );
+    println!("Ratio: of our check to the ordinary check, of our read to csv-core's.");
+    println!(
+        "{:<28}{:<16}{:>8}{:>8}{:>8}",
+        "input", "job", "ms", "GB/s", "ratio"
+    );
+    let all: Vec<Times> = INPUTS.iter().map(|input| timed(input, seconds)).collect();
+    for size in [1, 64, 4_096] {
+        pieces(size);
+    }
+    for (input, job, to, most) in BARS {
+        bar(&all, input, job, to, most);
+    }
+}
+
+/// Times the jobs on one input, once their answers agree, and prints its lines of the table.
+fn timed(input: &Input, seconds: u64) -> Times {
+    let file = (input.make)();
+    let answer = agree::on(&file, &mut Buffers::cleared(LIMIT, LIMIT / 4));
+    let refused = [answer.refusal, answer.line, answer.column, answer.byte];
+    assert_eq!(refused, input.refused, "{}", input.name);
+    let told = ours::told(answer);
+    let counts = (answer.records, answer.fields, answer.text);
+    let mut to = Buffers::cleared(LIMIT, LIMIT / 4);
+    let (mut text, mut ends) = (vec![1; LIMIT], vec![1; 4_096]);
+    let mut times = Times {
+        input: input.name,
+        bytes: file.len(),
+        least: [f64::INFINITY; 4],
+    };
+    let (mut turns, start) = (0, Instant::now());
+    while turns < TURNS || start.elapsed().as_secs() < seconds {
+        turns += 1;
+        assert_eq!(times.of(ORDINARY, || ordinary::check(&file)), answer);
+        assert_eq!(times.of(CHECK, || ours::check(&file)), told);
+        assert_eq!(times.of(READ, || ours::read(&file, &mut to)), told);
+        if other::THERE && input.name != inputs::FAULT {
+            let counted = times.of(CSV_CORE, || other::read(&file, &mut text, &mut ends));
+            assert!(counted == counts || answer.refusal != 0, "{counted:?}");
+        }
+    }
+    times.print();
+    times
+}
+
+impl Times {
+    fn of<T>(&mut self, job: usize, run: impl FnOnce() -> T) -> T {
+        let (seconds, result) = clocked(run);
+        self.least[job] = self.least[job].min(seconds);
+        result
+    }
+
+    /// The lines of the table. The ordinary check stops at a fault, so its time says nothing there.
+    fn print(&self) {
+        for (job, seconds) in self.least.iter().enumerate().filter(|(_, s)| s.is_finite()) {
+            let speed = format!("{:.2}", self.bytes as f64 / seconds / 1e9);
+            let (speed, ratio) = match job {
+                ORDINARY if self.input == inputs::FAULT => (String::new(), None),
+                CHECK if self.input != inputs::FAULT => (speed, self.ratio(CHECK, ORDINARY)),
+                READ => (speed, self.ratio(READ, CSV_CORE)),
+                _ => (speed, None),
+            };
+            let ratio = ratio.map_or(String::new(), |r| format!("{r:.2}"));
+            println!(
+                "{:<28}{:<16}{:>8.2}{speed:>8}{ratio:>8}",
+                self.input,
+                JOBS[job],
+                seconds * 1e3
+            );
+        }
+    }
+
+    fn ratio(&self, job: usize, to: usize) -> Option<f64> {
+        self.least[to]
+            .is_finite()
+            .then(|| self.least[job] / self.least[to])
+    }
+}
+
+fn clocked<T>(run: impl FnOnce() -> T) -> (f64, T) {
+    let start = Instant::now();
+    let result = run();
+    (start.elapsed().as_secs_f64(), result)
+}
+
+/// Times our check fed in small pieces, where it can be.
+fn pieces(size: usize) {
+    let file = inputs::short_rows(LIMIT / 16);
+    let whole = Some(ours::check(&file));
+    let mut least = f64::INFINITY;
+    for _ in 0..3 * TURNS {
+        let (seconds, told) = clocked(|| ours::check_in_pieces(&file, size));
+        if told.is_none() {
+            return;
+        }
+        assert_eq!(told, whole, "pieces of {size}");
+        least = least.min(seconds);
+    }
+    let each = least * 1e9 / file.len() as f64;
+    println!("our check, 1 MiB of short rows in pieces of {size}: {each:.2} ns a byte");
+}
+
+fn bar(all: &[Times], input: &str, job: usize, to: usize, most: f64) {
+    let times = all.iter().find(|times| times.input == input).unwrap();
+    let verdict = match times.ratio(job, to) {
+        Some(ratio) if ratio <= most => format!("{ratio:.2}, met"),
+        Some(ratio) => format!("{ratio:.2}, missed"),
+        None => "not measured".to_string(),
+    };
+    println!(
+        "{input}: {} / {}, at most {most:.2}: {verdict}",
+        JOBS[job], JOBS[to]
+    );
+}

@@ -1,0 +1,214 @@
+-- `pieces::Check::walk` meets its contract.
+use Prim.Native.Nat.{ℕ, _+_, _-_, _≤_, _<_}
+use mathlib.Core.Path.{_≡_, refl, sym, ap, _∙_}
+use native.Mathlib.Omega.{arith}
+use lib.ListN.{length}
+use lib.Count.{trailingZeros}
+use Rattle.runs.proofs.Words.{block}
+use Rattle.pieces.specs.declared.Walk.{Walk}
+use Rattle.pieces.specs.Walk.{placedAt, Walking}
+use Rattle.pieces.proofs.Passing.{walking-start}
+use Rattle.pieces.proofs.Words.{Ground, Reading, sized, Mark, first-mark, no-mark, goes-on}
+use Rattle.pieces.proofs.Check.walk.Statement.{statement}
+use Rattle.pieces.proofs.Check.walk.Tie as tie
+
+abbrev Inv-loop2 : tie.InvT-loop2
+Inv-loop2 self t s at x₀ i e w₀ x w = Reading self t s at x e w
+
+abbrev μ-loop2 : tie.MeasureT-loop2
+μ-loop2 self t s at x₀ i e w₀ x w = length s - x .at
+
+abbrev Inv-loop : tie.InvT-loop
+Inv-loop self t s at x₀ x = Walking self s at x × Ground self t s
+
+abbrev μ-loop : tie.MeasureT-loop
+μ-loop self t s at x₀ x = length s - x .at
+
+cast-t11 : tie.Need-cast-t11 Inv-loop2 μ-loop2 Inv-loop μ-loop
+cast-t11 c = omega (arith, c .struct-known .given)
+
+loop-holds : tie.Need-loop-holds Inv-loop2 μ-loop2 Inv-loop μ-loop
+loop-holds c =
+    let a = c .before .before in
+    let known = c .before .shared-slice-known .given in (
+      walking-start (a .args .self) (a .args .s .now) (a .args .at) (a .pre .1 .0) (omega (arith, c .struct-known .given)) (a .pre .0),
+      record { stops = a .pre .1 .1; bytes = λ j. omega (arith, known j) },
+    )
+
+block-end-requires : tie.Need-block-end-requires Inv-loop2 μ-loop2 Inv-loop μ-loop
+block-end-requires c κs = tt
+
+marks-64-requires : tie.Need-marks-64-requires Inv-loop2 μ-loop2 Inv-loop μ-loop
+marks-64-requires c κs = tt
+
+loop2-holds : tie.Need-loop2-holds Inv-loop2 μ-loop2 Inv-loop μ-loop
+loop2-holds c =
+    let a = c .before .before .before .before .before .before .before .args in
+    let l = c .before .before .before .before .loop in
+    let k = block (a .t .now) (a .s .now) (l .x .at) (c .marks-64 .result) (c .before .before .if1 .taken) (c .marks-64 .ensures) in
+    let e = c .before .block-end .ensures in
+    record { walking = l .inv .0; ground = l .inv .1; marked = rw (sym e) at (k .marked); within = omega (arith, e, k .within); small = omega (arith, e, k .small) }
+
+cast-placed-at : tie.Need-cast-placed-at Inv-loop2 μ-loop2 Inv-loop μ-loop
+cast-placed-at c =
+    let a = c .before .before .before .before .before .before .before .before .before in
+    let l = c .before .loop2 in
+    let e = c .before .before .before .block-end .result in
+    let m = first-mark (a .args .self) (a .args .t .now) (a .args .s .now) (a .args .at) (l .x) e (l .w) (l .inv) (c .loop2-test .taken) in
+    let low = m .low in
+    let inside = m .inside in
+    let short = m .short in
+    omega arith
+
+add-placed-at : tie.Need-add-placed-at Inv-loop2 μ-loop2 Inv-loop μ-loop
+add-placed-at c =
+    let a = c .before .before .before .before .before .before .before .before .before .before in
+    let l = c .before .before .loop2 in
+    let e = c .before .before .before .before .block-end .result in
+    let m = first-mark (a .args .self) (a .args .t .now) (a .args .s .now) (a .args .at) (l .x) e (l .w) (l .inv) (c .before .loop2-test .taken) in
+    let low = m .low in
+    let inside = m .inside in
+    let short = m .short in
+    omega arith
+
+placed-at-requires : tie.Need-placed-at-requires Inv-loop2 μ-loop2 Inv-loop μ-loop
+placed-at-requires c κs = tt
+
+at-mark-requires : tie.Need-at-mark-requires Inv-loop2 μ-loop2 Inv-loop μ-loop
+at-mark-requires c κs =
+    let a = c .before .before .before .before .before .before .before .before .before .before .before in
+    let l = c .before .before .before .loop2 in
+    let e = c .before .before .before .before .before .block-end .result in
+    let m = first-mark (a .args .self) (a .args .t .now) (a .args .s .now) (a .args .at) (l .x) e (l .w) (l .inv) (c .before .before .loop2-test .taken) in
+    let low = m .low in
+    let inside = m .inside in
+    let short = m .short in
+    rw (c .placed-at .ensures) (sized (a .args .self) (a .args .s .now) (a .args .at) (placedAt (l .x) (l .x .at + trailingZeros 64 (l .w))) (m .walking) inside)
+
+returns : tie.Need-returns Inv-loop2 μ-loop2 Inv-loop μ-loop
+returns c =
+    let a = c .before .before .before .before .before .before .before .before .before .before .before .before .before .before .before in
+    let l = c .before .before .before .before .before .before .before .loop2 in
+    let e = c .before .before .before .before .before .before .before .before .before .block-end .result in
+    let m = first-mark (a .args .self) (a .args .t .now) (a .args .s .now) (a .args .at) (l .x) e (l .w) (l .inv) (c .before .before .before .before .before .before .loop2-test .taken) in
+    let low = m .low in
+    let inside = m .inside in
+    let short = m .short in
+    c .before .before .before .at-mark .ensures .goes (a .args .at) (rw (c .before .before .before .before .placed-at .ensures) (m .walking))
+
+cast-shifted : tie.Need-cast-shifted Inv-loop2 μ-loop2 Inv-loop μ-loop
+cast-shifted c =
+    let a = c .before .before .before .before .before .before .before .before .before .before .before .before .before .before .before in
+    let l = c .before .before .before .before .before .before .before .loop2 in
+    let e = c .before .before .before .before .before .before .before .before .before .block-end .result in
+    let m = first-mark (a .args .self) (a .args .t .now) (a .args .s .now) (a .args .at) (l .x) e (l .w) (l .inv) (c .before .before .before .before .before .before .loop2-test .taken) in
+    let low = m .low in
+    let inside = m .inside in
+    let short = m .short in
+    omega arith
+
+shr-shifted : tie.Need-shr-shifted Inv-loop2 μ-loop2 Inv-loop μ-loop
+shr-shifted c =
+    let a = c .before .before .before .before .before .before .before .before .before .before .before .before .before .before .before in
+    let l = c .before .before .before .before .before .before .before .loop2 in
+    let e = c .before .before .before .before .before .before .before .before .before .block-end .result in
+    let m = first-mark (a .args .self) (a .args .t .now) (a .args .s .now) (a .args .at) (l .x) e (l .w) (l .inv) (c .before .before .before .before .before .before .loop2-test .taken) in
+    let low = m .low in
+    let inside = m .inside in
+    let short = m .short in
+    omega arith
+
+sub-shifted : tie.Need-sub-shifted Inv-loop2 μ-loop2 Inv-loop μ-loop
+sub-shifted c = c .before .before .before .before .before .at-mark .ensures .on
+
+shifted-requires : tie.Need-shifted-requires Inv-loop2 μ-loop2 Inv-loop μ-loop
+shifted-requires c κs = tt
+
+loop2-less : tie.Need-loop2-less Inv-loop2 μ-loop2 Inv-loop μ-loop
+loop2-less c =
+    let a = c .before .before .before .before .before .before .before .before .before .before .before .before .before .before .before .before .before .before in
+    let l = c .before .before .before .before .before .before .before .before .before .before .loop2 in
+    let e = c .before .before .before .before .before .before .before .before .before .before .before .before .block-end .result in
+    let m = first-mark (a .args .self) (a .args .t .now) (a .args .s .now) (a .args .at) (l .x) e (l .w) (l .inv) (c .before .before .before .before .before .before .before .before .before .loop2-test .taken) in
+    let low = m .low in
+    let inside = m .inside in
+    let short = m .short in
+    let y = c .before .before .before .before .before .before .before .placed-at in
+    let z = c .before .before .before .before .before .before .at-mark in
+    let on = z .ensures .on in
+    let at : y .result .at ≡ l .x .at + trailingZeros 64 (l .w) = ap (λ (q : Walk). q .at) (y .ensures) in
+    let within = z .ensures .goes (a .args .at) (rw (y .ensures) (m .walking)) .within in
+    omega (arith, c .before .before .before .if2 .left)
+
+loop2-again : tie.Need-loop2-again Inv-loop2 μ-loop2 Inv-loop μ-loop
+loop2-again c =
+    let a = c .before .before .before .before .before .before .before .before .before .before .before .before .before .before .before .before .before .before in
+    let l = c .before .before .before .before .before .before .before .before .before .before .loop2 in
+    let e = c .before .before .before .before .before .before .before .before .before .before .before .before .block-end .result in
+    let m = first-mark (a .args .self) (a .args .t .now) (a .args .s .now) (a .args .at) (l .x) e (l .w) (l .inv) (c .before .before .before .before .before .before .before .before .before .loop2-test .taken) in
+    let low = m .low in
+    let inside = m .inside in
+    let short = m .short in
+    let y = c .before .before .before .before .before .before .before .placed-at in
+    let z = c .before .before .before .before .before .before .at-mark in
+    let on = z .ensures .on in
+    let at : y .result .at ≡ l .x .at + trailingZeros 64 (l .w) = ap (λ (q : Walk). q .at) (y .ensures) in
+    goes-on (a .args .self) (a .args .t .now) (a .args .s .now) (a .args .at) (l .x) e (l .w) (l .inv) (trailingZeros 64 (l .w)) (z .result .at - y .result .at) (c .shifted .result) (z .result)
+    (omega arith) (z .ensures .goes (a .args .at) (rw (y .ensures) (m .walking))) (c .shifted .ensures)
+
+later-requires : tie.Need-later-requires Inv-loop2 μ-loop2 Inv-loop μ-loop
+later-requires c κs = tt
+
+placed-at-requires-2 : tie.Need-placed-at-requires-2 Inv-loop2 μ-loop2 Inv-loop μ-loop
+placed-at-requires-2 c κs = tt
+
+loop-less : tie.Need-loop-less Inv-loop2 μ-loop2 Inv-loop μ-loop
+loop-less c =
+    let l = c .before .before .before .loop2 in
+    let within = l .inv .within in
+    let walk = l .inv .walking .within in
+    let e = c .before .before .before .before .before .block-end .ensures in
+    let at = ap (λ (q : Walk). q .at) (c .placed-at2 .ensures) in
+    let on = c .before .before .before .before .before .before .if1 .taken in
+    omega (arith, c .before .later .ensures)
+
+loop-again : tie.Need-loop-again Inv-loop2 μ-loop2 Inv-loop μ-loop
+loop-again c =
+    let a = c .before .before .before .before .before .before .before .before .before .before .before in
+    let l = c .before .before .before .loop2 in
+    let e = c .before .before .before .before .before .block-end .result in
+    let s = no-mark (a .args .self) (a .args .t .now) (a .args .s .now) (a .args .at) (l .x) e (l .w) (l .inv) (c .before .before .loop2-test .left) in
+    (rw (c .placed-at2 .ensures, c .before .later .ensures) s, l .inv .ground)
+
+returns-2 : tie.Need-returns-2 Inv-loop2 μ-loop2 Inv-loop μ-loop
+returns-2 c = c .before .before .loop .inv .0
+
+pub walk-spec : {M : Type 1} → statement M
+walk-spec =
+    tie.close
+    (tie.spec
+    Inv-loop2
+    μ-loop2
+    Inv-loop
+    μ-loop
+    cast-t11
+    loop-holds
+    block-end-requires
+    marks-64-requires
+    loop2-holds
+    cast-placed-at
+    add-placed-at
+    placed-at-requires
+    at-mark-requires
+    returns
+    cast-shifted
+    shr-shifted
+    sub-shifted
+    shifted-requires
+    loop2-less
+    loop2-again
+    later-requires
+    placed-at-requires-2
+    loop-less
+    loop-again
+    returns-2)

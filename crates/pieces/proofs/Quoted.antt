@@ -1,0 +1,229 @@
+-- Between quotes: bytes, pairs of quotes and line feeds come to one jump.
+use Prim.Native.Nat.{ℕ, zero, suc, _+_, _-_, _≤_, _<_, min}
+use native.Mathlib.Numerals.{add-one}
+use native.Mathlib.Omega.{arith}
+use mathlib.Core.Path.{_≡_, refl, sym, ap, _∙_}
+use mathlib.Core.Bool.{Bool, true, false, cond}
+use mathlib.Core.List.{[], _∷_}
+use lib.Dec.{eqb, leb}
+use lib.ListN.{length, getD, drop, length-drop}
+use lib.Seq.{drop-cons, drop-drop}
+use borrow.Author.Tests.{eqb-true, eqb-false, eq-eqb, ne-eqb}
+use Rattle.format.specs.declared.Place.{Place}
+use Rattle.format.specs.Table.{Bytes}
+use Rattle.format.specs.Dialect.{Dialect, Class, delimiter, LF, dialect, classOf}
+use Rattle.format.specs.Place.{place}
+use Rattle.format.proofs.Classes.{delimiter-at, LF-beside}
+use Rattle.steps.specs.Steps.{quoted, stepOf}
+use Rattle.runs.specs.Runs.{run, isInner, pairs}
+use Rattle.runs.proofs.Runs.{run-within, pairs-le}
+use Rattle.pieces.specs.declared.Check.{Check}
+use Rattle.pieces.specs.Check.{counterLimit, plus, moved, entered, placed, stepped, fed, fedAll, along, spot, jumped}
+use Rattle.pieces.specs.Walk.{Settled, Between}
+use Rattle.pieces.proofs.Jumps.{plus-is, plus-plus, fed-is, noted-none, jump-jump, inner-leap, pairs-leap}
+
+pub spot-along : (k l t n : ℕ) (p : Place) → along k (spot l t n p) ≡ spot l (t + k) (n + k) p
+unfolding spot
+spot-along k l t n p = rw (plus-plus (cond (eqb l 0) (p .column .0) 1) t k, plus-plus (p .byte .0) n k)
+
+pub spot-line : (l t n : ℕ) (p : Place) → moved 0x0A (spot l t n p) ≡ spot (l + 1) 0 (n + 1) p
+unfolding spot moved
+spot-line l t n p = rw (plus-plus (p .line .0) l 1, plus-plus (p .byte .0) n 1, ne-eqb (l + 1) 0 (λ e. omega arith))
+
+-- a line feed between quotes
+lf-step : (c : Check) → c .refusal ≡ 0 → c .form ≡ 3 → fed c 0x0A ≡ jumped 3 (moved 0x0A (c .here)) 1 c
+unfolding stepOf stepped jumped
+lf-step c r f = go (eqb 0x0A (c .delimiter)) refl
+  where
+    go : (x : Bool) → eqb 0x0A (c .delimiter) ≡ x → fed c 0x0A ≡ placed (moved 0x0A (c .here)) (entered 3 (c .mark) (c .used) (record { start = c .field .start; content = plus (plus (c .field .content) (c .field .held)) 1; held = 0; number = c .field .number }) c)
+    go true e = rw (fed-is c 0x0A quoted delimiter r f (delimiter-at (dialect (c .delimiter) (c .leniencies)) 0x0A (eqb-true 0x0A (c .delimiter) e)), noted-none 0x0A c refl)
+    go false e = rw (fed-is c 0x0A quoted LF r f (LF-beside (dialect (c .delimiter) (c .leniencies)) (λ q. eqb-false 0x0A (c .delimiter) e (sym q))), noted-none 0x0A c refl)
+
+-- nothing passed yet
+settled-parts :
+    (c : Check) (k b m h : ℕ) (p : Place) → 3 ≡ k → 1 ≡ b → m ≡ c .field .content → 0 ≡ h → p ≡ c .here
+    → _≡_ {A = Check} (record {
+      delimiter = c .delimiter;
+      leniencies = c .leniencies;
+      refusal = c .refusal;
+      form = 3;
+      begun = 1;
+      used = c .used;
+      here = p;
+      mark = c .mark;
+      field = record { start = c .field .start; content = m; held = 0; number = c .field .number };
+      counts = c .counts;
+    })
+    (record {
+      delimiter = c .delimiter;
+      leniencies = c .leniencies;
+      refusal = c .refusal;
+      form = k;
+      begun = b;
+      used = c .used;
+      here = c .here;
+      mark = c .mark;
+      field = record { start = c .field .start; content = c .field .content; held = h; number = c .field .number };
+      counts = c .counts;
+    })
+settled-parts c k b m h p e₁ e₂ e₃ e₄ e₅ = rw (e₁, e₂, e₃, e₄, e₅)
+
+pub spot-none : (p : Place) → p .line .0 ≤ counterLimit → p .column .0 ≤ counterLimit → p .byte .0 ≤ counterLimit → spot 0 0 0 p ≡ p
+unfolding spot
+spot-none p a b c =
+    let x : plus (p .line .0) 0 ≡ p .line .0 = omega arith in
+    let y : plus (p .column .0) 0 ≡ p .column .0 = omega arith in
+    let z : plus (p .byte .0) 0 ≡ p .byte .0 = omega arith in
+    rw (x, y, z)
+
+pub settled-none : (c : Check) → Settled c → jumped 3 (spot 0 0 0 (c .here)) 0 c ≡ c
+unfolding jumped entered placed
+settled-none c h =
+    let m : plus (plus (c .field .content) (c .field .held)) 0 ≡ c .field .content = kept (c .field .content) (c .field .held) (h .content) (h .held) in
+    settled-parts c (c .form) (c .begun) (plus (plus (c .field .content) (c .field .held)) 0) (c .field .held) (spot 0 0 0 (c .here)) (sym (h .form)) (sym (h .begun)) m (sym (h .held))
+    (spot-none (c .here) (h .line) (h .column) (h .byte))
+  where
+    kept : (a b : ℕ) → a ≤ counterLimit → b ≡ 0 → plus (plus a b) 0 ≡ a
+    kept a b l e = omega arith
+
+-- the bytes of f from at to i, l line feeds among them and t bytes behind the last, are content of m bytes
+abbrev pub Inner : Check → Bytes → ℕ → ℕ → ℕ → ℕ → ℕ → Type 0
+Inner c f at i l t m = fedAll (jumped 3 (spot l t (i - at) (c .here)) m c) (drop i f) ≡ fedAll c (drop at f)
+
+pub inner-start : (c : Check) (f : Bytes) (at : ℕ) → Settled c → Inner c f at at 0 0 0
+inner-start c f at h =
+    let z : at - at ≡ 0 = omega arith in
+    ap (λ (n : ℕ). fedAll (jumped 3 (spot 0 0 n (c .here)) 0 c) (drop at f)) z ∙ ap (λ (e : Check). fedAll e (drop at f)) (settled-none c h)
+
+here-is : (p : Place) (m : ℕ) (c : Check) → (jumped 3 p m c) .here ≡ p
+unfolding jumped placed
+here-is p m c = refl
+
+calm : (p : Place) (m : ℕ) (c : Check) → c .refusal ≡ 0 → (jumped 3 p m c) .refusal ≡ 0
+unfolding jumped placed entered
+calm p m c e = e
+
+inside-form : (p : Place) (m : ℕ) (c : Check) → (jumped 3 p m c) .form ≡ 3
+unfolding jumped placed entered
+inside-form p m c = refl
+
+delimiter-is : (p : Place) (m : ℕ) (c : Check) → (jumped 3 p m c) .delimiter ≡ c .delimiter
+unfolding jumped placed entered
+delimiter-is p m c = refl
+
+pub fed-at : (c : Check) (f : Bytes) (i : ℕ) → i < length f → fedAll (fed c (getD f i 0)) (drop (i + 1) f) ≡ fedAll c (drop i f)
+unfolding fedAll
+fed-at c f i h = rw (add-one, drop-cons f i 0)
+
+module _ (c : Check) (f : Bytes) (at i l t m : ℕ) (h : Settled c) (on : at ≤ i) (g : Inner c f at i l t m) where
+  now : Check
+  now = jumped 3 (spot l t (i - at) (c .here)) m c
+
+  -- a jump from there
+  onward :
+      (j l′ t′ x : ℕ) (p : Place) → p ≡ spot l′ t′ (j - at) (c .here) → fedAll (jumped 3 p x now) (drop j f) ≡ fedAll now (drop i f)
+      → Inner c f at j l′ t′ (m + x)
+  unfolding now
+  onward j l′ t′ x p e q =
+      ap (λ (p : Place). fedAll (jumped 3 p (m + x) c) (drop j f)) (sym e)
+      ∙ ap (λ (e : Check). fedAll e (drop j f)) (sym (jump-jump 3 3 p (spot l t (i - at) (c .here)) x m c))
+      ∙ q ∙ g
+
+  pub inner-line : i < length f → getD f i 0 ≡ 0x0A → Inner c f at (i + 1) (l + 1) 0 (m + 1)
+  unfolding now
+  inner-line v e =
+      let p = spot l t (i - at) (c .here) in
+      let z : i - at + 1 ≡ i + 1 - at = omega arith in
+      onward (i + 1) (l + 1) 0 1 (moved 0x0A p) (spot-line l t (i - at) (c .here) ∙ ap (λ (n : ℕ). spot (l + 1) 0 n (c .here)) z)
+      (ap (λ (q : Place). fedAll (jumped 3 (moved 0x0A q) 1 now) (drop (i + 1) f)) (sym (here-is p m c))
+      ∙ ap (λ (x : Check). fedAll x (drop (i + 1) f)) (sym (lf-step now (calm p m c (h .refusal)) (inside-form p m c)))
+      ∙ ap (λ (b : ℕ). fedAll (fed now b) (drop (i + 1) f)) (sym e)
+      ∙ fed-at now f i v)
+
+  pub inner-more : (k : ℕ) → k ≤ run isInner (drop i f) → Inner c f at (i + k) l (t + k) (m + k)
+  unfolding now
+  inner-more zero q =
+      let x : i + 0 ≡ i = omega arith in
+      let y : t + 0 ≡ t = omega arith in
+      let z : m + 0 ≡ m = omega arith in
+      rw (x, y, z) g
+  inner-more (suc k) q =
+      let p = spot l t (i - at) (c .here) in
+      let z : i - at + suc k ≡ i + suc k - at = omega arith in
+      onward (i + suc k) l (t + suc k) (suc k) (along (suc k) p) (spot-along (suc k) l t (i - at) (c .here) ∙ ap (λ (n : ℕ). spot l (t + suc k) n (c .here)) z)
+      (ap (λ (q : Place). fedAll (jumped 3 (along (suc k) q) (suc k) now) (drop (i + suc k) f)) (sym (here-is p m c))
+      ∙ inner-leap f i (suc k) now (omega arith) (calm p m c (h .refusal)) (inside-form p m c) q)
+
+  pub inner-pairs : (k : ℕ) → k ≤ pairs (drop i f) → Inner c f at (i + (k + k)) l (t + (k + k)) (m + k)
+  unfolding now
+  inner-pairs zero q =
+      let x : i + (0 + 0) ≡ i = omega arith in
+      let y : t + (0 + 0) ≡ t = omega arith in
+      let z : m + 0 ≡ m = omega arith in
+      rw (x, y, z) g
+  inner-pairs (suc k) q =
+      let p = spot l t (i - at) (c .here) in
+      let n = suc k + suc k in
+      let z : i - at + (suc k + suc k) ≡ i + (suc k + suc k) - at = omega arith in
+      onward (i + n) l (t + n) (suc k) (along n p) (spot-along n l t (i - at) (c .here) ∙ ap (λ (x : ℕ). spot l (t + n) x (c .here)) z)
+      (ap (λ (q : Place). fedAll (jumped 3 (along n q) (suc k) now) (drop (i + n) f)) (sym (here-is p m c))
+      ∙ pairs-leap f i (suc k) now (omega arith) (calm p m c (h .refusal)) (inside-form p m c) (λ e. h .other (sym (delimiter-is p m c) ∙ e)) q)
+
+pub inner-both :
+    (c : Check) (f : Bytes) (at i l t m k q : ℕ) → Settled c → at ≤ i → Inner c f at i l t m → k ≤ run isInner (drop i f) → q ≤ pairs (drop (i + k) f)
+    → Inner c f at (i + (k + (q + q))) l (t + (k + (q + q))) (m + (k + q))
+inner-both c f at i l t m k q h on g a b =
+    let x : i + k + (q + q) ≡ i + (k + (q + q)) = omega arith in
+    let y : t + k + (q + q) ≡ t + (k + (q + q)) = omega arith in
+    let z : m + k + q ≡ m + (k + q) = omega arith in
+    rw (← x, ← y, ← z) (inner-pairs c f at (i + k) l (t + k) (m + k) h (omega arith) (inner-more c f at i l t m h on g k a) q b)
+
+-- a walk between quotes from at stands at i, behind m bytes of content, l line feeds and t bytes behind the last of these, whatever the state
+pub record Content (s : Bytes) (at i m l t : ℕ) : Type 0 where
+  pub on : at ≤ i
+  pub within : i ≤ length s
+  pub content : at + m ≤ i
+  pub lines : at + l ≤ i
+  pub tail : at + t ≤ i
+  pub flat : l ≡ 0 → at + t ≡ i
+  pub inner : (c : Check) → Settled c → Inner c s at i l t m
+
+pub content-start : (s : Bytes) (at : ℕ) → at ≤ length s → Content s at at 0 0 0
+content-start s at h =
+    record { on = omega arith; within = h; content = omega arith; lines = omega arith; tail = omega arith; flat = λ e. omega arith; inner = λ c q. inner-start c s at q }
+
+module _ (s : Bytes) (at i m l t : ℕ) (g : Content s at i m l t) where
+  pub content-line : i < length s → getD s i 0 ≡ 0x0A → Content s at (i + 1) (m + 1) (l + 1) 0
+  content-line v e =
+      record {
+        on = omega (arith, g .on);
+        within = omega arith;
+        content = omega (arith, g .content);
+        lines = omega (arith, g .lines);
+        tail = omega (arith, g .on);
+        flat = λ q. absurd (omega arith);
+        inner = λ c q. inner-line c s at i l t m q (g .on) (g .inner c q) v e;
+      }
+
+  -- k inner bytes, then q pairs
+  module _ (k q : ℕ) (h : k ≡ run isInner (drop i s)) (p : q ≡ pairs (drop (i + k) s)) where
+    pub run-fits : i + k ≤ length s
+    run-fits = run-within isInner s i k (g .within) (omega (arith, h))
+
+    pub pairs-fit : i + (k + (q + q)) ≤ length s
+    pairs-fit = omega (arith, pairs-le (drop (i + k) s), length-drop (i + k) s, run-fits)
+
+    pub content-more : Content s at (i + (k + (q + q))) (m + (k + q)) l (t + (k + (q + q)))
+    content-more =
+        record {
+          on = omega (arith, g .on);
+          within = pairs-fit;
+          content = omega (arith, g .content);
+          lines = omega (arith, g .lines);
+          tail = omega (arith, g .tail);
+          flat = λ z. omega (arith, g .flat z);
+          inner = λ c u. inner-both c s at i l t m k q u (g .on) (g .inner c u) (omega (arith, h)) (omega (arith, p));
+        }
+
+  pub content-read : Between s at (record { end = i; content = m; lines = l; tail = t })
+  content-read = record { on = g .on; within = g .within; content = g .content; lines = g .lines; tail = g .tail; flat = g .flat; same = g .inner }

@@ -1,0 +1,66 @@
+-- Line feeds from a place on, and what stands behind the last of them.
+use Prim.Native.Nat.{ℕ, suc, _+_, _-_, _≤_, _<_}
+use native.Mathlib.Numerals.{add-one}
+use native.Mathlib.Omega.{arith}
+use mathlib.Core.Path.{_≡_, sym, ap, _∙_}
+use mathlib.Core.List.{[], _∷_, _++_}
+use lib.Dec.{eqb}
+use lib.ListN.{length, getD, take, drop, drop-of-length-le, length-drop, take-append-drop}
+use lib.Seq.{drop-cons, drop-drop}
+use borrow.Author.Tests.{ne-eqb}
+use Rattle.format.specs.Table.{Bytes}
+use Rattle.format.specs.Place.{lineFeeds, sinceLf, behind}
+use Rattle.format.proofs.Places.{lineFeeds-append, sinceLf-append, place-behind, place-within}
+use Rattle.runs.specs.Words.{bit}
+
+pub feeds-more : (s : Bytes) (i : ℕ) → i < length s → lineFeeds (drop i s) ≡ bit (eqb (getD s i 0) 0x0A) + lineFeeds (drop (i + 1) s)
+unfolding lineFeeds
+feeds-more s i h = rw (add-one, drop-cons s i 0)
+
+pub feeds-none : (s : Bytes) (i : ℕ) → length s ≤ i → lineFeeds (drop i s) ≡ 0
+unfolding lineFeeds
+feeds-none s i h = rw (drop-of-length-le s h)
+
+pub since-le : (f : Bytes) → length (sinceLf f) ≤ length f
+unfolding behind
+since-le f = omega (arith, rw (place-behind f []) at (place-within f [] .column))
+
+-- bytes without an LF, and such bytes behind an LF
+since-all : (f : Bytes) → lineFeeds f ≡ 0 → sinceLf f ≡ f
+unfolding sinceLf
+since-all f e = sinceLf-append [] f ∙ rw e
+
+since-behind : (a f : Bytes) → lineFeeds f ≡ 0 → sinceLf (a ++ (0x0A ∷ f)) ≡ f
+unfolding lineFeeds sinceLf
+since-behind a f e = sinceLf-append a (0x0A ∷ f) ∙ rw e (since-all f e)
+
+parted : (s : Bytes) (a b : ℕ) → a ≤ b → drop a s ≡ take (b - a) (drop a s) ++ drop b s
+parted s a b h =
+    let to : a + (b - a) ≡ b = omega arith in
+    sym (take-append-drop (b - a) (drop a s))
+    ∙ ap (λ (r : Bytes). take (b - a) (drop a s) ++ r) (drop-drop (b - a) a s ∙ ap (λ (j : ℕ). drop j s) to)
+
+-- a walk from the end of a part stands at i: no LF stands from there on
+abbrev pub NoLf : Bytes → ℕ → ℕ → Type 0
+NoLf s from i = (i ≤ length s) × (length s - i ≤ length s - from) × (lineFeeds (drop i s) ≡ 0)
+
+module _ (s : Bytes) (from i : ℕ) (h : NoLf s from i) where
+  pub no-lf-more : from < i → (getD s (i - 1) 0 ≡ 0x0A → ⊥) → NoLf s from (i - 1)
+  no-lf-more l e =
+      let one : i - 1 + 1 ≡ i = omega arith in
+      let none = ne-eqb (getD s (i - 1) 0) 0x0A e in
+      (omega arith, omega arith, feeds-more s (i - 1) (omega arith) ∙ rw (none, one) (omega (arith, h .2)))
+
+  pub no-lf-stops : from < i → getD s (i - 1) 0 ≡ 0x0A → length s - i ≡ length (sinceLf (drop from s))
+  no-lf-stops l e =
+      let one : suc (i - 1) ≡ i = omega arith in
+      let lf : drop (i - 1) s ≡ 0x0A ∷ drop i s = rw (drop-cons s (i - 1) 0 (omega arith), e, one) in
+      let before : Bytes = take (i - 1 - from) (drop from s) in
+      let all = parted s from (i - 1) (omega arith) ∙ ap (λ (r : Bytes). before ++ r) lf in
+      sym (ap (λ (f : Bytes). length (sinceLf f)) all ∙ ap length (since-behind before (drop i s) (h .2)) ∙ length-drop i s)
+
+  pub no-lf-end : i ≤ from → length s - i ≡ length (sinceLf (drop from s))
+  no-lf-end l =
+      let sum = lineFeeds-append (take (from - i) (drop i s)) (drop from s) in
+      let none : lineFeeds (drop from s) ≡ 0 = omega (arith, sum, ap lineFeeds (parted s i from l), h .2) in
+      omega (arith, ap length (since-all (drop from s) none), length-drop from s)

@@ -1,0 +1,204 @@
+//! Many plain rows with one among them that is not like them, at every kind of place in a block of
+//! 64 bytes.
+
+use crate::content_limit::{with_delimiter, DIALECTS};
+use crate::model::{BLANK, CONTENT_LIMIT, QUOTE};
+use crate::random::Random;
+use crate::random_files::{all_dialects, random_pieces};
+use crate::rooms::around;
+use crate::stream::{Recipe, Stream};
+use std::io::{self, Write};
+
+/// Where in a block the other row begins.
+const PLACES: [usize; 9] = [0, 1, 7, 8, 31, 32, 33, 62, 63];
+const BLOCK: usize = 64;
+
+/// What stands in a row's field in the place of its own content; `,` is the dialect's delimiter
+/// here and below.
+const FIELDS: [&[u8]; 17] = [
+    b"\"ab\"",
+    b"\"c\"\"d\"",
+    b"\"\"\"\"",
+    b"\"\"",
+    b"\"e\r\nf\"",
+    b"\",\n\"",
+    b"\"open",
+    b"g\"h",
+    b"\"i\"j",
+    b"k\x01",
+    b"\"l\x7F\"",
+    b"\x80",
+    b"\t",
+    b" m ",
+    b" \"n\" ",
+    b"o\rp",
+    b"\n",
+];
+
+/// What ends the row in the place of CRLF.
+const BREAKS: [&[u8]; 5] = [b"\n", b"\r", b"\r\r\n", b"\n\r\n", b"\r\n\r\n"];
+
+/// Plain rows of a number of columns, and how many of them stand before and behind the other one.
+struct Rows {
+    fields: Vec<&'static [u8]>,
+    times: usize,
+}
+
+pub fn send<W: Write>(stream: &mut Stream<W>) -> io::Result<()> {
+    let mut random = Random::from_seed(64);
+    stream.section("many plain rows with another among them, in 64 dialects")?;
+    for (number, dialect) in all_dialects().enumerate() {
+        for rows in shapes() {
+            for (turn, other) in rows.others().into_iter().enumerate() {
+                let place = PLACES[(number + turn) % PLACES.len()];
+                let trial = rows.around(place, &other, dialect.0);
+                send_trial(stream, &mut random, dialect, &trial)?;
+            }
+        }
+    }
+    stream.section("many plain rows with a field of 4,095 to 4,097 bytes among them")?;
+    for dialect in DIALECTS {
+        for place in PLACES {
+            for other in long_fields() {
+                let rows = &shapes()[1];
+                let trial = rows.around(place, &rows.with_field(1, &other), dialect.0);
+                send_trial(stream, &mut random, dialect, &trial)?;
+            }
+        }
+    }
+    Ok(())
+}
+
+fn shapes() -> [Rows; 3] {
+    let rows = |fields, times| Rows { fields, times };
+    [
+        rows(vec![&b"a"[..]], 90),
+        rows(vec![b"ab", b"", b"cde"], 30),
+        rows(vec![b"a"; 70], 3),
+    ]
+}
+
+/// A file, and where in it the other row begins and ends.
+struct Trial {
+    recipe: Recipe,
+    begins: usize,
+    ends: usize,
+    length: usize,
+}
+
+impl Rows {
+    fn join(&self, fields: &[&[u8]]) -> Vec<u8> {
+        fields.join(&b","[..])
+    }
+
+    /// A row with another field in a column.
+    fn with_field(&self, column: usize, field: &Recipe) -> Recipe {
+        let mut row = vec![(self.join(&self.fields[..column]), 1)];
+        row.push((b",".to_vec(), column.min(1)));
+        row.extend(field.clone());
+        let behind = &self.fields[column + 1..];
+        row.push((b",".to_vec(), behind.len().min(1)));
+        row.push((self.join(behind), 1));
+        row.push((b"\r\n".to_vec(), 1));
+        row
+    }
+
+    /// Rows that are not like these: of other widths, with other breaks, and with other fields in
+    /// the first, a middle and the last column.
+    fn others(&self) -> Vec<Recipe> {
+        let width = self.fields.len();
+        let row = self.join(&self.fields);
+        let whole = |parts: &[&[u8]]| vec![(parts.concat(), 1)];
+        let mut others = vec![
+            whole(&[b"\r\n"]),
+            whole(&[&self.join(&self.fields[1..]), b"\r\n"]),
+            whole(&[&row, b",\r\n"]),
+            whole(&[b",", &row, b"\r\n"]),
+            whole(&[&row, b",", &row, b"\r\n"]),
+            whole(&[&b",".repeat(64), b"\r\n"]),
+        ];
+        others.extend(BREAKS.iter().map(|end| whole(&[&row, end])));
+        let mut columns = vec![0, width / 2, width - 1];
+        columns.dedup();
+        for column in columns {
+            let field = |field: &&[u8]| self.with_field(column, &vec![(field.to_vec(), 1)]);
+            others.extend(FIELDS.iter().map(field));
+        }
+        others
+    }
+
+    /// The rows with another among them that begins at this place of a block.
+    fn around(&self, place: usize, other: &Recipe, delimiter: u8) -> Trial {
+        let row = [&self.join(&self.fields), &b"\r\n"[..]].concat();
+        let first = row.len() * (self.times + 1);
+        let filling = (BLOCK + place - first % BLOCK) % BLOCK;
+        let mut recipe = vec![(vec![b'h'], filling), (row.clone(), self.times + 1)];
+        let begins = length_of(&recipe);
+        recipe.extend(other.clone());
+        let ends = length_of(&recipe);
+        recipe.push((row, self.times));
+        let own = |(part, times): &(Vec<u8>, usize)| (with_delimiter(part, delimiter), *times);
+        Trial {
+            begins,
+            ends,
+            length: length_of(&recipe),
+            recipe: recipe.iter().map(own).collect(),
+        }
+    }
+}
+
+fn length_of(recipe: &Recipe) -> usize {
+    recipe.iter().map(|(part, times)| part.len() * times).sum()
+}
+
+/// A file at once, cut within the other row and one byte behind it, and in a few pieces.
+fn send_trial<W: Write>(
+    stream: &mut Stream<W>,
+    random: &mut Random,
+    dialect: (u8, u8),
+    trial: &Trial,
+) -> io::Result<()> {
+    let Trial {
+        begins,
+        ends,
+        length,
+        ..
+    } = *trial;
+    let cut = begins + random.below(ends - begins);
+    let cuts = [vec![length], vec![cut, ends + 1 - cut, length - ends - 1]];
+    let turn = random.below(70);
+    for pieces in cuts.into_iter().chain([random_pieces(random, length)]) {
+        stream.long(dialect, &trial.recipe, &pieces, around(length, turn))?;
+    }
+    Ok(())
+}
+
+/// Fields whose contents are as long as may be, a byte shorter or a byte longer, in some dialect at
+/// least.
+fn long_fields() -> Vec<Recipe> {
+    let some = |byte: u8, times: usize| (vec![byte], times);
+    let quote = || some(QUOTE, 1);
+    let mut fields = Vec::new();
+    for length in CONTENT_LIMIT - 1..=CONTENT_LIMIT + 1 {
+        let pairs = (b"abcdefg\"\"".to_vec(), length / 8);
+        fields.extend([
+            vec![some(b'a', length)],
+            vec![quote(), some(b'a', length), quote()],
+            vec![quote(), pairs, some(b'a', length % 8), quote()],
+            vec![quote(), some(QUOTE, 2 * length), quote()],
+            vec![quote(), some(b'\n', length), quote()],
+            vec![some(BLANK, 70), some(b'a', length), some(BLANK, 70)],
+            vec![some(b'a', length - 65), some(BLANK, 64), some(b'a', 1)],
+            vec![some(b'a', length - 64), some(BLANK, 64)],
+            vec![
+                some(BLANK, 9),
+                quote(),
+                some(b'a', length),
+                quote(),
+                some(BLANK, 9),
+            ],
+            vec![some(0x80, length)],
+        ]);
+    }
+    fields
+}
