@@ -12,11 +12,12 @@ pub struct Input {
 pub const SHORT: &str = "short rows";
 pub const QUOTED: &str = "short rows, a field quoted";
 pub const REMARKS: &str = "long remarks";
+pub const BROKEN: &str = "long remarks, much quoted";
 pub const QUOTES: &str = "only quotes";
 pub const LINES: &str = "lines of quotes";
 pub const FAULT: &str = "fault in the first row";
 
-pub const INPUTS: [Input; 6] = [
+pub const INPUTS: [Input; 7] = [
     Input {
         name: SHORT,
         make: || rows(LIMIT, "", short_row),
@@ -29,7 +30,12 @@ pub const INPUTS: [Input; 6] = [
     },
     Input {
         name: REMARKS,
-        make: || rows(LIMIT, "", remark_row),
+        make: || rows(LIMIT, "", |dice| remark_row(dice, 60)),
+        refused: [0, 0, 0, 0],
+    },
+    Input {
+        name: BROKEN,
+        make: || rows(LIMIT, "", |dice| remark_row(dice, 24)),
         refused: [0, 0, 0, 0],
     },
     Input {
@@ -127,14 +133,15 @@ fn quoted_row(dice: &mut Dice) -> String {
     )
 }
 
-/// A few plain fields and a quoted remark of 100 to 2,000 bytes.
-fn remark_row(dice: &mut Dice) -> String {
+/// A few plain fields and a quoted remark of 100 to 2,000 bytes, in which one word of so many stands between
+/// quotes of its own, one ends a line, and three end in a comma.
+fn remark_row(dice: &mut Dice, words: usize) -> String {
     let (number, name, position) = (dice.below(10_000), dice.of(&NAMES), dice.position());
     let length = 100 + dice.below(1_880);
     let mut remark = String::new();
     while remark.len() < length {
         let word = dice.of(&WORDS);
-        match dice.below(24) {
+        match dice.below(words) {
             0 => remark.push_str(&format!("\"\"{word}\"\" ")),
             1 => remark.push_str(&format!("{word}.\r\n")),
             2..=4 => remark.push_str(&format!("{word}, ")),

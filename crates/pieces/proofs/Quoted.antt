@@ -1,12 +1,12 @@
 -- Between quotes: bytes, pairs of quotes and line feeds come to one jump.
-use Prim.Native.Nat.{ℕ, zero, suc, _+_, _-_, _≤_, _<_, min}
+use Prim.Native.Nat.{ℕ, zero, suc, _+_, _-_, _*_, _/_, _≤_, _<_, min}
 use native.Mathlib.Numerals.{add-one}
 use native.Mathlib.Omega.{arith}
 use mathlib.Core.Path.{_≡_, refl, sym, ap, _∙_}
 use mathlib.Core.Bool.{Bool, true, false, cond}
-use mathlib.Core.List.{[], _∷_}
+use mathlib.Core.List.{List, [], _∷_}
 use lib.Dec.{eqb, leb}
-use lib.ListN.{length, getD, drop, length-drop}
+use lib.ListN.{length, getD, take, drop, length-drop}
 use lib.Seq.{drop-cons, drop-drop}
 use borrow.Author.Tests.{eqb-true, eqb-false, eq-eqb, ne-eqb}
 use Rattle.format.specs.declared.Place.{Place}
@@ -16,10 +16,14 @@ use Rattle.format.specs.Place.{place}
 use Rattle.format.proofs.Classes.{delimiter-at, LF-beside}
 use Rattle.steps.specs.Steps.{quoted, stepOf}
 use Rattle.runs.specs.Runs.{run, isInner, pairs}
-use Rattle.runs.proofs.Runs.{run-within, pairs-le}
+use Rattle.runs.specs.Words.{word, Marks}
+use Rattle.runs.proofs.Runs.{run-add, run-within, pairs-le}
+use Rattle.runs.proofs.Words.{Marked, marked-part, marked-none, marked-some}
+use lib.Count.{trailingZeros}
 use Rattle.pieces.specs.declared.Check.{Check}
 use Rattle.pieces.specs.Check.{counterLimit, plus, moved, entered, placed, stepped, fed, fedAll, along, spot, jumped}
-use Rattle.pieces.specs.Walk.{Settled, Between}
+use Rattle.pieces.specs.declared.Inside.{Inside}
+use Rattle.pieces.specs.Walk.{Settled, Between, runOn, Further}
 use Rattle.pieces.proofs.Jumps.{plus-is, plus-plus, fed-is, noted-none, jump-jump, inner-leap, pairs-leap}
 
 pub spot-along : (k l t n : ℕ) (p : Place) → along k (spot l t n p) ≡ spot l (t + k) (n + k) p
@@ -169,32 +173,27 @@ module _ (c : Check) (f : Bytes) (at i l t m : ℕ) (h : Settled c) (on : at ≤
       (ap (λ (q : Place). fedAll (jumped 3 (along n q) (suc k) now) (drop (i + n) f)) (sym (here-is p m c))
       ∙ pairs-leap f i (suc k) now (omega arith) (calm p m c (h .refusal)) (inside-form p m c) (λ e. h .other (sym (delimiter-is p m c) ∙ e)) q)
 
-pub inner-both :
-    (c : Check) (f : Bytes) (at i l t m k q : ℕ) → Settled c → at ≤ i → Inner c f at i l t m → k ≤ run isInner (drop i f) → q ≤ pairs (drop (i + k) f)
-    → Inner c f at (i + (k + (q + q))) l (t + (k + (q + q))) (m + (k + q))
-inner-both c f at i l t m k q h on g a b =
-    let x : i + k + (q + q) ≡ i + (k + (q + q)) = omega arith in
-    let y : t + k + (q + q) ≡ t + (k + (q + q)) = omega arith in
-    let z : m + k + q ≡ m + (k + q) = omega arith in
-    rw (← x, ← y, ← z) (inner-pairs c f at (i + k) l (t + k) (m + k) h (omega arith) (inner-more c f at i l t m h on g k a) q b)
+-- a walk between quotes from at, whatever the state
+pub between-start : (s : Bytes) (at : ℕ) → at ≤ length s → Between s at (record { end = at; content = 0; lines = 0; tail = 0 })
+between-start s at h =
+    record { on = omega arith; within = h; content = omega arith; lines = omega arith; tail = omega arith; flat = λ e. omega arith; same = λ c q. inner-start c s at q }
 
--- a walk between quotes from at stands at i, behind m bytes of content, l line feeds and t bytes behind the last of these, whatever the state
-pub record Content (s : Bytes) (at i m l t : ℕ) : Type 0 where
-  pub on : at ≤ i
-  pub within : i ≤ length s
-  pub content : at + m ≤ i
-  pub lines : at + l ≤ i
-  pub tail : at + t ≤ i
-  pub flat : l ≡ 0 → at + t ≡ i
-  pub inner : (c : Check) → Settled c → Inner c s at i l t m
+module _ (s : Bytes) (at : ℕ) (x : Inside) (g : Between s at x) where
+  pub between-run : (k : ℕ) → k ≤ run isInner (drop (x .end) s) → Between s at (runOn x k)
+  between-run k h =
+      record {
+        on = omega (arith, g .on);
+        within = run-within isInner s (x .end) k (g .within) h;
+        content = omega (arith, g .content);
+        lines = omega (arith, g .lines);
+        tail = omega (arith, g .tail);
+        flat = λ z. omega (arith, g .flat z);
+        same = λ c q. inner-more c s at (x .end) (x .lines) (x .tail) (x .content) q (g .on) (g .same c q) k h;
+      }
 
-pub content-start : (s : Bytes) (at : ℕ) → at ≤ length s → Content s at at 0 0 0
-content-start s at h =
-    record { on = omega arith; within = h; content = omega arith; lines = omega arith; tail = omega arith; flat = λ e. omega arith; inner = λ c q. inner-start c s at q }
-
-module _ (s : Bytes) (at i m l t : ℕ) (g : Content s at i m l t) where
-  pub content-line : i < length s → getD s i 0 ≡ 0x0A → Content s at (i + 1) (m + 1) (l + 1) 0
-  content-line v e =
+  pub between-line :
+      x .end < length s → getD s (x .end) 0 ≡ 0x0A → Between s at (record { end = x .end + 1; content = x .content + 1; lines = x .lines + 1; tail = 0 })
+  between-line v e =
       record {
         on = omega (arith, g .on);
         within = omega arith;
@@ -202,28 +201,72 @@ module _ (s : Bytes) (at i m l t : ℕ) (g : Content s at i m l t) where
         lines = omega (arith, g .lines);
         tail = omega (arith, g .on);
         flat = λ q. absurd (omega arith);
-        inner = λ c q. inner-line c s at i l t m q (g .on) (g .inner c q) v e;
+        same = λ c q. inner-line c s at (x .end) (x .lines) (x .tail) (x .content) q (g .on) (g .same c q) v e;
       }
 
-  -- k inner bytes, then q pairs
-  module _ (k q : ℕ) (h : k ≡ run isInner (drop i s)) (p : q ≡ pairs (drop (i + k) s)) where
-    pub run-fits : i + k ≤ length s
-    run-fits = run-within isInner s i k (g .within) (omega (arith, h))
+  pub between-pairs :
+      (q : ℕ) → q ≡ pairs (drop (x .end) s)
+      → Between s at (record { end = x .end + (q + q); content = x .content + q; lines = x .lines; tail = x .tail + (q + q) })
+  between-pairs q e =
+      record {
+        on = omega (arith, g .on);
+        within = omega (arith, pairs-le (drop (x .end) s), length-drop (x .end) s, g .within);
+        content = omega (arith, g .content);
+        lines = omega (arith, g .lines);
+        tail = omega (arith, g .tail);
+        flat = λ z. omega (arith, g .flat z);
+        same = λ c u. inner-pairs c s at (x .end) (x .lines) (x .tail) (x .content) u (g .on) (g .same c u) q (omega (arith, e));
+      }
 
-    pub pairs-fit : i + (k + (q + q)) ≤ length s
-    pairs-fit = omega (arith, pairs-le (drop (i + k) s), length-drop (i + k) s, run-fits)
+-- by a line feed or pairs, from any place before
+pub further-line :
+    (s : Bytes) (x : Inside) → x .end < length s → getD s (x .end) 0 ≡ 0x0A
+    → Further s x (record { end = x .end + 1; content = x .content + 1; lines = x .lines + 1; tail = 0 })
+further-line s x v e = record { on = omega arith; more = λ at g. between-line s at x g v e }
 
-    pub content-more : Content s at (i + (k + (q + q))) (m + (k + q)) l (t + (k + (q + q)))
-    content-more =
-        record {
-          on = omega (arith, g .on);
-          within = pairs-fit;
-          content = omega (arith, g .content);
-          lines = omega (arith, g .lines);
-          tail = omega (arith, g .tail);
-          flat = λ z. omega (arith, g .flat z);
-          inner = λ c u. inner-both c s at i l t m k q u (g .on) (g .inner c u) (omega (arith, h)) (omega (arith, p));
-        }
+pub further-pairs :
+    (s : Bytes) (x : Inside) (q : ℕ) → q ≡ pairs (drop (x .end) s)
+    → Further s x (record { end = x .end + (q + q); content = x .content + q; lines = x .lines; tail = x .tail + (q + q) })
+further-pairs s x q e = record { on = omega arith; more = λ at g. between-pairs s at x g q e }
 
-  pub content-read : Between s at (record { end = i; content = m; lines = l; tail = t })
-  content-read = record { on = g .on; within = g .within; content = g .content; lines = g .lines; tail = g .tail; flat = g .flat; same = g .inner }
+-- by a word of marks: the bytes before the first, or all that are left
+module _ (t : List Bool) (marks : Marks t isInner) (s : Bytes) (bytes : (j : ℕ) → getD s j 0 < 256) (at : ℕ) (x : Inside) (g : Between s at x) (w : ℕ) (h : w ≡ word t (take 16 (drop (x .end) s))) where
+  last : ℕ
+  last = x .end + min 16 (length s - x .end)
+
+  marked : Marked t s last (x .end) w
+  unfolding last
+  marked = marked-part t s 16 (x .end) w h
+
+  last-within : last ≤ length s
+  unfolding last
+  last-within = let q = g .within in omega arith
+
+  pub before-mark : (w ≡ 0 → ⊥) → (x .end + trailingZeros 64 w < length s) × (trailingZeros 64 w < 64) × (trailingZeros 64 w ≤ run isInner (drop (x .end) s))
+  unfolding last
+  before-mark z =
+      let q = marked-some t isInner marks s bytes last (x .end) w marked last-within (omega arith) z in
+      let q₀ = q .0 in
+      let within = g .within in
+      (omega arith, omega arith, q .1)
+
+  -- without a mark and with less than a block ahead, the bytes go on to the end
+  pub without-mark : w ≡ 0 → run isInner (drop (x .end) s) < 16 → length s - x .end ≤ run isInner (drop (x .end) s)
+  unfolding last
+  without-mark z r = let q = marked-none t isInner marks s bytes last (x .end) w marked last-within z in omega arith
+
+-- behind whole blocks less than a block is ahead
+pub blocks-on :
+    (s : Bytes) (at : ℕ) (x : Inside) → Between s at x → (k : ℕ) → k ≡ run isInner (drop (x .end) s) / 16 * 16 → (y : Inside) → y ≡ runOn x k
+    → Between s at y × (run isInner (drop (y .end) s) < 16)
+blocks-on s at x g k e y q =
+    let d : run isInner (drop k (drop (x .end) s)) ≡ run isInner (drop (x .end + k) s) = ap (run isInner) (drop-drop k (x .end) s) in
+    let all = run-add isInner (drop (x .end) s) k (run isInner (drop (x .end + k) s)) (omega (arith, e)) (omega (arith, d)) in
+    rw q (between-run s at x g k (omega (arith, e)), omega (arith, all, e))
+
+-- such bytes, and more of them on the same line, cannot carry a count over
+pub run-fits : (s : Bytes) (at : ℕ) (x : Inside) (k : ℕ) → Between s at x → length s < 18446744073709551616 → k ≤ run isInner (drop (x .end) s)
+    → (x .end + k < 18446744073709551616) × (x .content ≤ x .end) × (x .tail ≤ x .end)
+run-fits s at x k g short h =
+    let u = run-within isInner s (x .end) k (g .within) h in
+    (omega arith, omega (arith, g .content), omega (arith, g .tail))

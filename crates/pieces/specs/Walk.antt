@@ -43,6 +43,14 @@ pub record Between (s : Bytes) (at : ℕ) (r : Inside) : Type 0 where
   pub flat : r .lines ≡ 0 → at + r .tail ≡ r .end
   pub same : (c : Check) → Settled c → fedAll (jumped 3 (spot (r .lines) (r .tail) (r .end - at) (c .here)) (r .content) c) (drop (r .end) s) ≡ fedAll c (drop at s)
 
+-- k bytes more on the same line, and to such bytes as far or further on
+abbrev pub runOn : Inside → ℕ → Inside
+runOn x k = record { end = x .end + k; content = x .content + k; lines = x .lines; tail = x .tail + k }
+
+pub record Further (s : Bytes) (x r : Inside) : Type 0 where
+  pub on : x .end ≤ r .end
+  pub more : (at : ℕ) → Between s at x → Between s at r
+
 -- where the line begins on which they end, if that on which they begin does so at j
 abbrev pub lastLine : ℕ → Inside → ℕ
 lastLine j r = cond (eqb (r .lines) 0) j (r .end - r .tail)

@@ -12,10 +12,10 @@ ghost use Rattle.steps.specs.Model.{isValid};
 ghost use Rattle.steps.specs.Numbers.{stepTable};
 ghost use Rattle.pieces.specs.Answers.{Started, Fed, Asked};
 ghost use Rattle.pieces.specs.Check.{counterLimit, plus, moved, newField, started, stopped, entered, opened, placed, noting, onlyWide, noted, atEnd, oneField, asWide, oneRecord, fieldEnded, recordEnded, seenAt, grown, stepped, fed, fedAll, along, spot, jumped, bitIf, totalled, settledAnswer, asked};
-ghost use Rattle.pieces.specs.Walk.{Leads, Settled, Between, Level, Sized, Walking, Goes, lastLine, placedAt, fieldOn, rowOn, opening, begun, texted, walked};
+ghost use Rattle.pieces.specs.Walk.{Leads, Settled, Between, runOn, Further, Level, Sized, Walking, Goes, lastLine, placedAt, fieldOn, rowOn, opening, begun, texted, walked};
 ghost use Rattle.format.specs.Dialect.{dialect};
-ghost use Rattle.runs.specs.Runs.{isPlain};
-ghost use Rattle.runs.specs.Words.{Stops};
+ghost use Rattle.runs.specs.Runs.{isPlain, isInner};
+ghost use Rattle.runs.specs.Words.{Marks, Stops};
 use format::Answer;
 use format::ByteOffset;
 use format::Column;
@@ -164,43 +164,69 @@ fn spot(lines: usize, tail: usize, bytes: usize, p: Place) -> Place
     Place { line, column, byte }
 }
 
-// The bytes, pairs of quotes and line feeds from a place on that are content between quotes.
-fn inside_from(s: &[u8], at: usize) -> Inside
+// The bytes, pairs of quotes and line feeds from a place on that are content between quotes: whole
+// blocks of bytes, then a word that marks what is no such byte.
+fn inside_from(t: &[bool; 256], s: &[u8], at: usize) -> Inside
     requires { ⌜ at ≤ length (now s) ⌝ }
+    requires { ⌜ Marks (now t) isInner ⌝ }
     ensures { λ r. ⌜ Between (now (s .entry)) at r ⌝ }
 {
-    let mut i = at;
-    let mut content = 0;
-    let mut lines = 0;
-    let mut tail = 0;
-    while i < s.len() {
-        if s[i] == 0x0A {
-            i += 1;
-            content += 1;
-            lines += 1;
-            tail = 0;
-        } else {
-            let k = runs::inner_run(s, i);
-            let q = runs::pair_run(s, i + k);
-            let n = k + (q + q);
-            if n == 0 {
-                return Inside {
-                    end: i,
-                    content,
-                    lines,
-                    tail,
-                };
-            }
-            i += n;
-            content += k + q;
-            tail += n;
+    let mut x = Inside {
+        end: at,
+        content: 0,
+        lines: 0,
+        tail: 0,
+    };
+    while x.end < s.len() {
+        let k = runs::inner_blocks(s, x.end);
+        let y = run_on(x, k);
+        let w = runs::marks_16(t, s, y.end);
+        if w == 0 {
+            return run_on(y, s.len() - y.end);
+        }
+        let n = u64::trailing_zeros(w);
+        let z = run_on(y, n as usize);
+        x = stop_on(z, s);
+        if x.end == z.end {
+            return x;
         }
     }
+    x
+}
+
+// Such bytes and k more of one line.
+fn run_on(x: Inside, k: usize) -> Inside
+    requires { ⌜ (x .end + k < 18446744073709551616) × (x .content ≤ x .end) × (x .tail ≤ x .end) ⌝ }
+    ensures { λ r. ⌜ r ≡ runOn x k ⌝ }
+{
     Inside {
-        end: i,
-        content,
-        lines,
-        tail,
+        end: x.end + k,
+        content: x.content + k,
+        lines: x.lines,
+        tail: x.tail + k,
+    }
+}
+
+// Such bytes and a line feed or the pairs of quotes that stand behind them, if any do.
+fn stop_on(x: Inside, s: &[u8]) -> Inside
+    requires { ⌜ (x .end < length (now s)) × (x .content ≤ x .end) × (x .lines ≤ x .end) × (x .tail ≤ x .end) ⌝ }
+    ensures { λ r. ⌜ Further (now (s .entry)) x r ⌝ }
+{
+    let p = x.end;
+    if s[p] == 0x0A {
+        return Inside {
+            end: p + 1,
+            content: x.content + 1,
+            lines: x.lines + 1,
+            tail: 0,
+        };
+    }
+    let q = runs::pair_run(s, p);
+    Inside {
+        end: p + (q + q),
+        content: x.content + q,
+        lines: x.lines,
+        tail: x.tail + (q + q),
     }
 }
 
@@ -539,7 +565,8 @@ impl Check {
         if !self.is_settled() {
             return Reached { at, check: self };
         }
-        let q = inside_from(s, at);
+        let t = runs::inner_table();
+        let q = inside_from(&t, s, at);
         let end = q.end;
         let here = self.here;
         let p = spot(q.lines, q.tail, end - at, here);
@@ -616,7 +643,8 @@ impl Check {
         ensures { λ r. ⌜ Leads self (now (s .entry)) at r ⌝ }
     {
         let t = runs::stop_table(self.delimiter, self.leniencies);
-        let x = self.walk(&t, s, at);
+        let inner = runs::inner_table();
+        let x = self.walk(&t, &inner, s, at);
         let end = x.at;
         Reached {
             at: end,
@@ -626,8 +654,9 @@ impl Check {
 
     // Walks over fields and records, each as wide as the first, as far as they are one jump: by words
     // that mark the bytes which are no plain text.
-    fn walk(self, t: &[bool; 256], s: &[u8], at: usize) -> Walk
+    fn walk(self, t: &[bool; 256], inner: &[bool; 256], s: &[u8], at: usize) -> Walk
         requires { ⌜ at ≤ length (now s) ⌝ }
+        requires { ⌜ Marks (now inner) isInner ⌝ }
         requires { ⌜ Level self (now s) × Stops (now t) (dialect (self .delimiter) (self .leniencies)) ⌝ }
         ensures { λ r. ⌜ Walking self (now (s .entry)) at r ⌝ }
     {
@@ -648,7 +677,7 @@ impl Check {
             while w != 0 {
                 let k = u64::trailing_zeros(w);
                 let y = placed_at(x, x.at + (k as usize));
-                x = self.at_mark(y, s);
+                x = self.at_mark(inner, y, s);
                 if x.at == y.at {
                     return x;
                 }
@@ -661,7 +690,8 @@ impl Check {
 
     // A walk behind the field that ends at the mark where it stands, and behind what ends it; or where it
     // stands.
-    fn at_mark(self, x: Walk, s: &[u8]) -> Walk
+    fn at_mark(self, inner: &[bool; 256], x: Walk, s: &[u8]) -> Walk
+        requires { ⌜ Marks (now inner) isInner ⌝ }
         requires { ⌜ Sized x (now s) ⌝ }
         ensures { λ r. ⌜ Goes self (now (s .entry)) x r ⌝ }
     {
@@ -675,19 +705,28 @@ impl Check {
             return field_on(x, p + 1, m, x.line, x.lines);
         }
         if b == 0x22 {
-            return self.at_quote(x, s);
+            return self.at_quote(inner, x, s);
         }
+        if self.ends_row(x, s, p) {
+            return row_on(x, p + 2, m, x.lines);
+        }
+        x
+    }
+
+    // Whether a line break at a place ends a record as wide as the first.
+    fn ends_row(self, x: Walk, s: &[u8], at: usize) -> bool
+        requires { ⌜ Sized x (now s) × (at ≤ length (now s)) ⌝ }
+        ensures { λ r. ⌜ (r ≡ true → (x .number + 1 ≡ self .counts .width) × (at + 1 < length (now (s .entry))) × (getD (now (s .entry)) at 0 ≡ 0x0D) × (getD (now (s .entry)) (at + 1) 0 ≡ 0x0A)) ⌝ }
+    {
         if x.number + 1 != self.counts.width as usize {
-            return x;
+            return false;
         }
-        if !is_break(s, p) {
-            return x;
-        }
-        row_on(x, p + 2, m, x.lines)
+        is_break(s, at)
     }
 
     // The same where the field begins with a quote at the mark.
-    fn at_quote(self, x: Walk, s: &[u8]) -> Walk
+    fn at_quote(self, inner: &[bool; 256], x: Walk, s: &[u8]) -> Walk
+        requires { ⌜ Marks (now inner) isInner ⌝ }
         requires { ⌜ Sized x (now s) × (getD (now s) (x .at) 0 ≡ 0x22) ⌝ }
         ensures { λ r. ⌜ Goes self (now (s .entry)) x r ⌝ }
     {
@@ -695,7 +734,7 @@ impl Check {
         if p != x.start {
             return x;
         }
-        let q = inside_from(s, p + 1);
+        let q = inside_from(inner, s, p + 1);
         let z = q.end;
         if (format::CONTENT_LIMIT as usize) < q.content {
             return x;
@@ -711,13 +750,10 @@ impl Check {
             let line = last_line(x.line, q);
             return field_on(x, z + 2, q.content, line, lines);
         }
-        if x.number + 1 != self.counts.width as usize {
-            return x;
+        if self.ends_row(x, s, z + 1) {
+            return row_on(x, z + 3, q.content, lines);
         }
-        if !is_break(s, z + 1) {
-            return x;
-        }
-        row_on(x, z + 3, q.content, lines)
+        x
     }
 
     // The state behind a walk from a place: the field in work, and its text so far.

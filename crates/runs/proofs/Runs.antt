@@ -1,13 +1,13 @@
 -- A run, one byte or one block at a time.
-use Prim.Native.Nat.{ℕ, zero, suc, _+_, _-_, _≤_, _<_}
+use Prim.Native.Nat.{ℕ, zero, suc, _+_, _-_, _*_, _/_, _%_, _≤_, _<_}
 use native.Mathlib.Numerals.{add-one}
 use native.Mathlib.Omega.{arith}
 use mathlib.Core.Path.{_≡_, refl, sym, ap, _∙_}
 use mathlib.Core.Bool.{Bool, true, false, cond, _&&_, and-false, false≢true}
 use mathlib.Core.List.{[], _∷_}
 use lib.ListN.{length, getD, drop, drop-of-length-le, length-drop}
-use borrow.Author.Tests.{ne-eqb}
-use lib.Dec.{eqb}
+use borrow.Author.Tests.{ne-eqb, leb-true, leb-false, le-leb}
+use lib.Dec.{eqb, leb}
 use lib.Seq.{drop-cons, drop-drop, getD-drop}
 use Rattle.format.specs.Table.{Bytes}
 use Rattle.runs.specs.Runs.{run, pairs}
@@ -89,6 +89,39 @@ module _ (p : ℕ → Bool) where
   pub run-ends : (s : Bytes) (i : ℕ) → i + run p (drop i s) < length s → p (getD s (i + run p (drop i s)) 0) ≡ false
   run-ends s i h = rw (getD-drop i s (run p (drop i s)) 0) at (front-ends (drop i s) (rw (length-drop i s) (omega arith)))
 
+  -- whether a front reaches one byte further
+  pub run-reaches : (s : Bytes) (i j : ℕ) → i + j < length s → leb (j + 1) (run p (drop i s)) ≡ (leb j (run p (drop i s)) && p (getD s (i + j) 0))
+  run-reaches s i j h = go (leb j (run p (drop i s))) (p (getD s (i + j) 0)) (leb (j + 1) (run p (drop i s))) refl refl refl
+    where
+      go : (x y z : Bool) → leb j (run p (drop i s)) ≡ x → p (getD s (i + j) 0) ≡ y → leb (j + 1) (run p (drop i s)) ≡ z → z ≡ (x && y)
+      go true true true e q w = refl
+      go true true false e q w =
+          let a = leb-true j (run p (drop i s)) e in
+          let b = leb-false (j + 1) (run p (drop i s)) w in
+          let k : run p (drop i s) ≡ j = omega arith in
+          absurd (false≢true (sym (run-ends s i (omega arith)) ∙ ap (λ (n : ℕ). p (getD s (i + n) 0)) k ∙ q))
+      go true false true e q w = absurd (false≢true (sym q ∙ run-holds s i j (omega (arith, leb-true (j + 1) (run p (drop i s)) w))))
+      go true false false e q w = refl
+      go false y true e q w = absurd (omega (arith, leb-false j (run p (drop i s)) e, leb-true (j + 1) (run p (drop i s)) w))
+      go false y false e q w = refl
+
+  pub run-reaches-none : (f : Bytes) → true ≡ leb 0 (run p f)
+  run-reaches-none f = sym (le-leb 0 (run p f) (omega arith))
+
+  -- a part of a front, and what is left of it
+  front-part : (f : Bytes) (k : ℕ) → k ≤ run p f → k + run p (drop k f) ≡ run p f
+  unfolding run
+  front-part f zero h = omega arith
+  front-part [] (suc k) h = absurd (omega arith)
+  front-part (b ∷ f) (suc k) h = go (p b) h (λ l. front-part f k l)
+    where
+      go : (x : Bool) → suc k ≤ cond x (suc (run p f)) 0 → (k ≤ run p f → k + run p (drop k f) ≡ run p f) → suc k + run p (drop k f) ≡ cond x (suc (run p f)) 0
+      go true l ih = omega (arith, ih (omega arith))
+      go false l ih = absurd (omega arith)
+
+  pub run-part : (s : Bytes) (i k : ℕ) → k ≤ run p (drop i s) → k + run p (drop (i + k) s) ≡ run p (drop i s)
+  run-part s i k h = ap (λ (f : Bytes). k + run p f) (sym (drop-drop k i s)) ∙ front-part (drop i s) k h
+
 -- a walk from a place stands at i: what is passed and the run that is left come to the whole run
 abbrev pub Passed : (ℕ → Bool) → Bytes → ℕ → ℕ → Type 0
 Passed p s from i = (from ≤ i) × (i - from + run p (drop i s) ≡ run p (drop from s))
@@ -105,6 +138,28 @@ module _ (p : ℕ → Bool) (s : Bytes) (from i : ℕ) where
 
   pub passed-end : Passed p s from i → length s ≤ i → i - from ≡ run p (drop from s)
   passed-end h l = omega (arith, run-none p s i l)
+
+pub passed-part : (p : ℕ → Bool) (s : Bytes) (from k : ℕ) → k ≤ run p (drop from s) → Passed p s from (from + k)
+passed-part p s from k h = (omega arith, omega (arith, run-part p s from k h))
+
+-- a walk by blocks of 16
+abbrev pub Blocks : (ℕ → Bool) → Bytes → ℕ → ℕ → Type 0
+Blocks p s from i = (from ≤ i) × (i ≤ length s) × ((i - from) % 16 ≡ 0) × (i - from + run p (drop i s) ≡ run p (drop from s))
+
+module _ (p : ℕ → Bool) (s : Bytes) (from i : ℕ) where
+  pub blocks-more : Blocks p s from i → i + 16 ≤ length s → true ≡ leb 16 (run p (drop i s)) → Blocks p s from (i + 16)
+  blocks-more h l e =
+      let q = leb-true 16 (run p (drop i s)) (sym e) in
+      (omega arith, l, omega arith, omega (arith, run-part p s i 16 q))
+
+  blocks-under : Blocks p s from i → run p (drop i s) < 16 → i - from ≡ run p (drop from s) / 16 * 16
+  blocks-under h l = omega arith
+
+  pub blocks-stop : Blocks p s from i → false ≡ leb 16 (run p (drop i s)) → i - from ≡ run p (drop from s) / 16 * 16
+  blocks-stop h e = blocks-under h (leb-false 16 (run p (drop i s)) (sym e))
+
+  pub blocks-end : Blocks p s from i → length s - i < 16 → i - from ≡ run p (drop from s) / 16 * 16
+  blocks-end h l = blocks-under h (omega (arith, run-le p (drop i s), length-drop i s))
 
 -- the pairs from a place on
 pub pairs-more : (s : Bytes) (i : ℕ) → i + 2 ≤ length s → getD s i 0 ≡ 0x22 → getD s (i + 1) 0 ≡ 0x22 → pairs (drop i s) ≡ suc (pairs (drop (i + 2) s))

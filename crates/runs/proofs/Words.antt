@@ -220,6 +220,24 @@ pub marked-past : (t : List Bool) (s : Bytes) (e i : ℕ) → e ≤ i → Marked
 unfolding word
 marked-past t s e i h = let z : e - i ≡ 0 = omega arith in rw z
 
+-- the word of a part is one word, however far it reaches past the end
+pub part-short : (t : List Bool) (s : Bytes) (i n m : ℕ) → length s - i ≤ n → length s - i ≤ m → word t (take n (drop i s)) ≡ word t (take m (drop i s))
+part-short t s i n m h k = all n h ∙ sym (all m k)
+  where
+    all : (j : ℕ) → length s - i ≤ j → word t (take j (drop i s)) ≡ word t (drop i s)
+    all j q = ap (word t) (take-all j (drop i s) (rw (length-drop i s) q))
+
+-- the word of n bytes, or of as many as there are
+pub marked-part : (t : List Bool) (s : Bytes) (n i w : ℕ) → w ≡ word t (take n (drop i s)) → Marked t s (i + min n (length s - i)) i w
+marked-part t s n i w h = h ∙ by-length (leb n (length s - i)) refl
+  where
+    by-length : (x : Bool) → leb n (length s - i) ≡ x → word t (take n (drop i s)) ≡ word t (take (i + min n (length s - i) - i) (drop i s))
+    by-length true e =
+        let q = leb-true n (length s - i) e in
+        let same : n ≡ i + min n (length s - i) - i = omega arith in
+        ap (λ (m : ℕ). word t (take m (drop i s))) same
+    by-length false e = let q = leb-false n (length s - i) e in part-short t s i n (i + min n (length s - i) - i) (omega arith) (omega arith)
+
 -- the block from a place on: it is within the part and of at most 64 bytes, and the word of 64 marks is its own
 pub record Block (t : List Bool) (s : Bytes) (i w : ℕ) : Type 0 where
   pub on : i < blockEnd (length s) i
@@ -228,19 +246,7 @@ pub record Block (t : List Bool) (s : Bytes) (i w : ℕ) : Type 0 where
   pub marked : Marked t s (blockEnd (length s) i) i w
 
 pub block : (t : List Bool) (s : Bytes) (i w : ℕ) → i < length s → w ≡ word t (take 64 (drop i s)) → Block t s i w
-block t s i w l h = record { on = omega arith; within = omega arith; small = omega arith; marked = h ∙ by-length (leb 64 (length s - i)) refl }
-  where
-    same : (a b : ℕ) → a ≡ b → word t (take a (drop i s)) ≡ word t (take b (drop i s))
-    same a b e = ap (λ (n : ℕ). word t (take n (drop i s))) e
-
-    all : (n : ℕ) → length (drop i s) ≤ n → word t (take n (drop i s)) ≡ word t (drop i s)
-    all n q = ap (word t) (take-all n (drop i s) q)
-
-    by-length : (x : Bool) → leb 64 (length s - i) ≡ x → word t (take 64 (drop i s)) ≡ word t (take (blockEnd (length s) i - i) (drop i s))
-    by-length true e = let q = leb-true 64 (length s - i) e in same 64 (blockEnd (length s) i - i) (omega arith)
-    by-length false e =
-        let q = leb-false 64 (length s - i) e in
-        all 64 (rw (length-drop i s) (omega arith)) ∙ sym (all (blockEnd (length s) i - i) (rw (length-drop i s) (omega arith)))
+block t s i w l h = record { on = omega arith; within = omega arith; small = omega arith; marked = marked-part t s 64 i w h }
 
 -- the last bytes, from their end
 module _ (t : List Bool) (s : Bytes) (at i w : ℕ) (room : length s < at + 64) (h : w ≡ word t (drop i s)) where

@@ -3,7 +3,8 @@
 // specs/Runs.antt says what a run is. Blocks are judged by loops that the compiler makes vectors of.
 ghost use mathlib.Core.Path.{_≡_};
 ghost use mathlib.Core.Bool.{true};
-ghost use Prim.Native.Nat.{ℕ, _+_, _-_, _<_, _≤_};
+ghost use Prim.Native.Nat.{ℕ, _+_, _-_, _*_, _/_, _<_, _≤_};
+ghost use lib.Dec.{leb};
 ghost use lib.ListN.{length, getD, take, drop};
 ghost use Rattle.format.specs.Dialect.{dialect};
 ghost use Rattle.format.specs.Place.{lineFeeds, sinceLf};
@@ -53,7 +54,7 @@ pub fn is_inner(b: u8) -> bool
 // Whether the 16 bytes from a place on are all such.
 fn inner_block(s: &[u8], at: usize) -> bool
     requires { ⌜ at + 16 ≤ length (now s) ⌝ }
-    ensures { λ r. ⌜ (r ≡ true → (k : ℕ) → k < 16 → isInner (getD (now (s .entry)) (at + k) 0) ≡ true) ⌝ }
+    ensures { λ r. ⌜ r ≡ leb 16 (run isInner (drop at (now (s .entry)))) ⌝ }
 {
     let mut all = true;
     let mut j = 0;
@@ -64,17 +65,28 @@ fn inner_block(s: &[u8], at: usize) -> bool
     all
 }
 
-// How many such bytes stand from a place on.
-pub fn inner_run(s: &[u8], from: usize) -> usize
-    ensures { λ r. ⌜ r ≡ run isInner (drop from (now (s .entry))) ⌝ }
+// How many such bytes stand from a place on, in whole blocks of 16.
+pub fn inner_blocks(s: &[u8], from: usize) -> usize
+    ensures { λ r. ⌜ r ≡ run isInner (drop from (now (s .entry))) / 16 * 16 ⌝ }
 {
     if s.len() <= from {
         return 0;
     }
     let mut i = from;
-    while 16 <= s.len() - i && inner_block(s, i) {
+    while 16 <= s.len() - i {
+        if !inner_block(s, i) {
+            return i - from;
+        }
         i += 16;
     }
+    i - from
+}
+
+// How many such bytes stand from a place on.
+pub fn inner_run(s: &[u8], from: usize) -> usize
+    ensures { λ r. ⌜ r ≡ run isInner (drop from (now (s .entry))) ⌝ }
+{
+    let mut i = from + inner_blocks(s, from);
     while i < s.len() {
         if !is_inner(s[i]) {
             return i - from;
@@ -183,6 +195,19 @@ fn marks_rest(t: &[bool; 256], s: &[u8], at: usize) -> u64
         w = w * 2 + bit(t[s[i] as usize]);
     }
     w
+}
+
+// The word of 16 bytes, or of as many as there are.
+pub fn marks_16(t: &[bool; 256], s: &[u8], at: usize) -> u64
+    ensures { λ r. ⌜ r ≡ word (now (t .entry)) (take 16 (drop at (now (s .entry)))) ⌝ }
+{
+    if s.len() < 16 {
+        return marks_rest(t, s, at);
+    }
+    if s.len() - 16 < at {
+        return marks_rest(t, s, at);
+    }
+    marks(t, s, at)
 }
 
 // Where the block from a place on ends: 64 bytes on, or where the part ends.

@@ -1,23 +1,23 @@
 -- `runs::inner_block` meets its contract.
 use Prim.Native.Nat.{ℕ, _+_, _-_, _≤_, _<_}
 use native.Mathlib.Omega.{arith}
-use mathlib.Core.Path.{_≡_, sym, _∙_}
-use mathlib.Core.Bool.{true}
-use borrow.Author.Count.{below-none, below-more}
-use lib.ListN.{length, getD}
-use Rattle.runs.proofs.Runs.{and-both}
-use Rattle.runs.specs.Runs.{isInner}
+use mathlib.Core.Path.{_≡_, sym, ap, ap₂, _∙_}
+use mathlib.Core.Bool.{Bool, _&&_}
+use lib.Dec.{leb}
+use lib.ListN.{length, drop}
+use Rattle.runs.proofs.Runs.{run-reaches, run-reaches-none}
+use Rattle.runs.specs.Runs.{run, isInner}
 use Rattle.runs.proofs.inner_block.Statement.{statement}
 use Rattle.runs.proofs.inner_block.Tie as tie
 
 abbrev Inv-loop : tie.InvT-loop
-Inv-loop s at all₀ j₀ all j = (j ≤ 16) × (all ≡ true → (k : ℕ) → k < j → isInner (getD s (at + k) 0) ≡ true)
+Inv-loop s at all₀ j₀ all j = (j ≤ 16) × (all ≡ leb j (run isInner (drop at s)))
 
 abbrev μ-loop : tie.MeasureT-loop
 μ-loop s at all₀ j₀ all j = 16 - j
 
 loop-holds : tie.Need-loop-holds Inv-loop μ-loop
-loop-holds c = (omega arith, λ e k h. absurd (omega arith))
+loop-holds c = (omega arith, run-reaches-none isInner _)
 
 add-is-inner : tie.Need-add-is-inner Inv-loop μ-loop
 add-is-inner c = omega (arith, c .before .before .before .pre)
@@ -36,15 +36,16 @@ loop-less c = omega arith
 
 loop-again : tie.Need-loop-again Inv-loop μ-loop
 loop-again c =
-    let a = c .before .before .before in
-    let i = a .loop .j in (
-      omega arith,
-      λ e. let both = and-both (a .loop .all) (c .is-inner .result) e in
-          below-more _ _ (a .loop .inv .1 (both .0)) (sym (c .is-inner .ensures) ∙ both .1),
-    )
+    let l = c .before .before .before .loop in
+    let a = c .before .before .before .before .before in
+    let room : a .args .at + l .j < length (a .args .s .now) = omega (arith, a .pre) in
+    (omega arith, ap₂ (λ (x y : Bool). x && y) (l .inv .1) (c .is-inner .ensures) ∙ sym (run-reaches isInner (a .args .s .now) (a .args .at) (l .j) room))
 
 returns : tie.Need-returns Inv-loop μ-loop
-returns c = λ e k h. c .before .loop .inv .1 e k (omega arith)
+returns c =
+    let l = c .before .loop in
+    let e : l .j ≡ 16 = omega arith in
+    l .inv .1 ∙ ap (λ (n : ℕ). leb n (run isInner (drop (c .before .before .before .args .at) (c .before .before .before .args .s .now)))) e
 
 pub inner-block-spec : {M : Type 1} → statement M
 inner-block-spec =

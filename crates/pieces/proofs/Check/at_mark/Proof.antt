@@ -1,5 +1,4 @@
 -- `pieces::Check::at_mark` meets its contract.
-use borrow.Author.Tests.{not-false}
 use native.Mathlib.Omega.{arith}
 use Rattle.pieces.proofs.Passing.{goes-field, goes-row}
 use borrow.Author.Needs.{needs}
@@ -27,7 +26,7 @@ field-on-requires c κs = search needs
 returns-2 : tie.Need-returns-2
 returns-2 c =
     let a = c .before .before .before .before .before .before .before in
-    rw (c .field-on .ensures) (goes-field (a .args .self) (a .args .s .now) (a .args .x) (a .pre) (omega (arith, c .before .before .before .before .if1 .left)) (c .before .if2 .taken))
+    rw (c .field-on .ensures) (goes-field (a .args .self) (a .args .s .now) (a .args .x) (a .pre .1) (omega (arith, c .before .before .before .before .if1 .left)) (c .before .if2 .taken))
 
 at-quote-requires : tie.Need-at-quote-requires
 at-quote-requires c κs = search needs
@@ -35,20 +34,8 @@ at-quote-requires c κs = search needs
 returns-3 : tie.Need-returns-3
 returns-3 c = search needs
 
-add-if4 : tie.Need-add-if4
-add-if4 c = search needs
-
-cast-if4 : tie.Need-cast-if4
-cast-if4 c = omega (arith, c .struct-known4 .given)
-
-returns-4 : tie.Need-returns-4
-returns-4 c = search needs
-
-is-break-requires : tie.Need-is-break-requires
-is-break-requires c κs = search needs
-
-returns-5 : tie.Need-returns-5
-returns-5 c = search needs
+ends-row-requires : tie.Need-ends-row-requires
+ends-row-requires c κs = search needs
 
 add-row-on : tie.Need-add-row-on
 add-row-on c = search needs
@@ -56,11 +43,14 @@ add-row-on c = search needs
 row-on-requires : tie.Need-row-on-requires
 row-on-requires c κs = search needs
 
-returns-6 : tie.Need-returns-6
-returns-6 c =
-    let a = c .before .before .before .before .before .before .before .before .before .before .before .before .before in
-    let k = c .before .before .is-break .ensures (not-false _ (c .before .if5 .left)) in
-    rw (c .row-on .ensures) (goes-row (a .args .self) (a .args .s .now) (a .args .x) (a .pre) (omega (arith, c .before .before .before .before .before .before .before .before .before .before .if1 .left)) (k .0) (k .1) (k .2) (c .before .before .before .if4 .left))
+returns-4 : tie.Need-returns-4
+returns-4 c =
+    let a = c .before .before .before .before .before .before .before .before .before .before in
+    let k = c .before .before .ends-row .ensures (c .before .if4 .taken) in
+    rw (c .row-on .ensures) (goes-row (a .args .self) (a .args .s .now) (a .args .x) (a .pre .1) (omega (arith, c .before .before .before .before .before .before .before .if1 .left)) (k .1) (k .2) (k .3) (k .0))
+
+returns-5 : tie.Need-returns-5
+returns-5 c = search needs
 
 pub at-mark-spec : {M : Type 1} → statement M
 at-mark-spec =
@@ -75,11 +65,8 @@ at-mark-spec =
     returns-2
     at-quote-requires
     returns-3
-    add-if4
-    cast-if4
-    returns-4
-    is-break-requires
-    returns-5
+    ends-row-requires
     add-row-on
     row-on-requires
-    returns-6)
+    returns-4
+    returns-5)

@@ -1,7 +1,6 @@
 -- `pieces::Check::at_quote` meets its contract.
-use borrow.Author.Tests.{not-false}
 use native.Mathlib.Omega.{arith}
-use Rattle.pieces.proofs.Passing.{goes-quoted, goes-quoted-row, field-fits, row-fits, far-fits, quoted-fits, lines-fit}
+use Rattle.pieces.proofs.Passing.{goes-quoted, goes-quoted-row, row-fits, far-fits, quoted-fits, lines-fit}
 use borrow.Author.Needs.{needs}
 use Rattle.pieces.proofs.Check.at_quote.Statement.{statement}
 use Rattle.pieces.proofs.Check.at_quote.Tie as tie
@@ -49,62 +48,56 @@ add-field-on : tie.Need-add-field-on
 add-field-on c =
     let a = c .before .before .before .before .before .before .before .before .before .before .before .before .before .before .before in
     let r = c .before .before .before .before .before .before .before .before .before .before .before .inside-from in
-    omega (arith, far-fits (a .args .self) (a .args .s .now) (a .args .x) (a .pre .0) (r .result) (r .ensures))
+    omega (arith, far-fits (a .args .self) (a .args .s .now) (a .args .x) (a .pre .1 .0) (r .result) (r .ensures))
 
 field-on-requires : tie.Need-field-on-requires
 field-on-requires c κs =
     let a = c .before .before .before .before .before .before .before .before .before .before .before .before .before .before .before in
     let r = c .before .before .before .before .before .before .before .before .before .before .before .inside-from in
-    quoted-fits (a .args .self) (a .args .s .now) (a .args .x) (a .pre .0) (r .result) (r .ensures)
+    quoted-fits (a .args .self) (a .args .s .now) (a .args .x) (a .pre .1 .0) (r .result) (r .ensures)
 
 returns-5 : tie.Need-returns-5
 returns-5 c =
     let a = c .before .before .before .before .before .before .before .before .before .before .before .before .before .before .before .before in
     let r = c .before .before .before .before .before .before .before .before .before .before .before .before .inside-from in
     rw (c .field-on .ensures, c .before .last-line .ensures)
-    (goes-quoted (a .args .self) (a .args .s .now) (a .args .x) (a .pre .0) (c .before .before .before .before .before .before .before .before .before .before .before .before .before .if1 .left) (a .pre .1) (r .result) (r .ensures) (omega (arith, c .before .before .before .before .before .before .before .before .before .before .if2 .left)) (λ q. omega (arith, c .before .before .before .before .before .before .before .before .before .if3 .left)) (c .before .before .before .before .before .before .before .if4 .left) (c .before .before .if5 .taken))
+    (goes-quoted (a .args .self) (a .args .s .now) (a .args .x) (a .pre .1 .0) (c .before .before .before .before .before .before .before .before .before .before .before .before .before .if1 .left) (a .pre .1 .1) (r .result) (r .ensures) (omega (arith, c .before .before .before .before .before .before .before .before .before .before .if2 .left)) (λ q. omega (arith, c .before .before .before .before .before .before .before .before .before .if3 .left)) (c .before .before .before .before .before .before .before .if4 .left) (c .before .before .if5 .taken))
 
-add-if6 : tie.Need-add-if6
-add-if6 c = omega (arith, field-fits (c .before .before .before .before .before .before .before .before .before .before .before .before .before .before .before .args .self) (c .before .before .before .before .before .before .before .before .before .before .before .before .before .before .before .args .s .now) (c .before .before .before .before .before .before .before .before .before .before .before .before .before .before .before .args .x) (c .before .before .before .before .before .before .before .before .before .before .before .before .before .before .before .pre .0) .1)
+add-ends-row : tie.Need-add-ends-row
+add-ends-row c =
+    let a = c .before .before .before .before .before .before .before .before .before .before .before .before .before .before in
+    let r = c .before .before .before .before .before .before .before .before .before .before .inside-from in
+    omega (arith, far-fits (a .args .self) (a .args .s .now) (a .args .x) (a .pre .1 .0) (r .result) (r .ensures))
 
-cast-if6 : tie.Need-cast-if6
-cast-if6 c = omega (arith, c .struct-known7 .given)
-
-returns-6 : tie.Need-returns-6
-returns-6 c = search needs
-
-add-is-break : tie.Need-add-is-break
-add-is-break c =
-    let a = c .before .before .before .before .before .before .before .before .before .before .before .before .before .before .before .before .before in
-    let r = c .before .before .before .before .before .before .before .before .before .before .before .before .before .inside-from in
-    omega (arith, far-fits (a .args .self) (a .args .s .now) (a .args .x) (a .pre .0) (r .result) (r .ensures))
-
-is-break-requires : tie.Need-is-break-requires
-is-break-requires c κs = search needs
-
-returns-7 : tie.Need-returns-7
-returns-7 c = search needs
+ends-row-requires : tie.Need-ends-row-requires
+ends-row-requires c κs =
+    let a = c .before .before .before .before .before .before .before .before .before .before .before .before .before .before in
+    let r = c .before .before .before .before .before .before .before .before .before .before .inside-from in
+    (a .pre .1 .0, omega (arith, c .before .before .before .before .before .before .before .if3 .left, r .ensures .within))
 
 add-row-on : tie.Need-add-row-on
 add-row-on c =
-    let a = c .before .before .before .before .before .before .before .before .before .before .before .before .before .before .before .before .before .before .before in
-    let r = c .before .before .before .before .before .before .before .before .before .before .before .before .before .before .before .inside-from in
-    omega (arith, far-fits (a .args .self) (a .args .s .now) (a .args .x) (a .pre .0) (r .result) (r .ensures))
+    let a = c .before .before .before .before .before .before .before .before .before .before .before .before .before .before .before .before in
+    let r = c .before .before .before .before .before .before .before .before .before .before .before .before .inside-from in
+    omega (arith, far-fits (a .args .self) (a .args .s .now) (a .args .x) (a .pre .1 .0) (r .result) (r .ensures))
 
 row-on-requires : tie.Need-row-on-requires
 row-on-requires c κs =
-    let a = c .before .before .before .before .before .before .before .before .before .before .before .before .before .before .before .before .before .before .before in
-    let r = c .before .before .before .before .before .before .before .before .before .before .before .before .before .before .before .inside-from in
-    let f = row-fits (a .args .self) (a .args .s .now) (a .args .x) (a .pre .0) in
-    (f .0, f .1, quoted-fits (a .args .self) (a .args .s .now) (a .args .x) (a .pre .0) (r .result) (r .ensures) .2, lines-fit (a .args .self) (a .args .s .now) (a .args .x) (a .pre .0) (r .result) (r .ensures))
+    let a = c .before .before .before .before .before .before .before .before .before .before .before .before .before .before .before .before in
+    let r = c .before .before .before .before .before .before .before .before .before .before .before .before .inside-from in
+    let f = row-fits (a .args .self) (a .args .s .now) (a .args .x) (a .pre .1 .0) in
+    (f .0, f .1, quoted-fits (a .args .self) (a .args .s .now) (a .args .x) (a .pre .1 .0) (r .result) (r .ensures) .2, lines-fit (a .args .self) (a .args .s .now) (a .args .x) (a .pre .1 .0) (r .result) (r .ensures))
 
-returns-8 : tie.Need-returns-8
-returns-8 c =
-    let a = c .before .before .before .before .before .before .before .before .before .before .before .before .before .before .before .before .before .before .before .before in
-    let r = c .before .before .before .before .before .before .before .before .before .before .before .before .before .before .before .before .inside-from in
-    let k = c .before .before .is-break .ensures (not-false _ (c .before .if7 .left)) in
+returns-6 : tie.Need-returns-6
+returns-6 c =
+    let a = c .before .before .before .before .before .before .before .before .before .before .before .before .before .before .before .before .before in
+    let r = c .before .before .before .before .before .before .before .before .before .before .before .before .before .inside-from in
+    let k = c .before .before .ends-row .ensures (c .before .if6 .taken) in
     rw (c .row-on .ensures)
-    (goes-quoted-row (a .args .self) (a .args .s .now) (a .args .x) (a .pre .0) (c .before .before .before .before .before .before .before .before .before .before .before .before .before .before .before .before .before .if1 .left) (a .pre .1) (r .result) (r .ensures) (omega (arith, c .before .before .before .before .before .before .before .before .before .before .before .before .before .before .if2 .left)) (λ q. omega (arith, c .before .before .before .before .before .before .before .before .before .before .before .before .before .if3 .left)) (c .before .before .before .before .before .before .before .before .before .before .before .if4 .left) (k .0) (k .1) (k .2) (c .before .before .before .if6 .left))
+    (goes-quoted-row (a .args .self) (a .args .s .now) (a .args .x) (a .pre .1 .0) (c .before .before .before .before .before .before .before .before .before .before .before .before .before .before .if1 .left) (a .pre .1 .1) (r .result) (r .ensures) (omega (arith, c .before .before .before .before .before .before .before .before .before .before .before .if2 .left)) (λ q. omega (arith, c .before .before .before .before .before .before .before .before .before .before .if3 .left)) (c .before .before .before .before .before .before .before .before .if4 .left) (k .1) (k .2) (k .3) (k .0))
+
+returns-7 : tie.Need-returns-7
+returns-7 c = search needs
 
 pub at-quote-spec : {M : Type 1} → statement M
 at-quote-spec =
@@ -126,12 +119,9 @@ at-quote-spec =
     add-field-on
     field-on-requires
     returns-5
-    add-if6
-    cast-if6
-    returns-6
-    add-is-break
-    is-break-requires
-    returns-7
+    add-ends-row
+    ends-row-requires
     add-row-on
     row-on-requires
-    returns-8)
+    returns-6
+    returns-7)

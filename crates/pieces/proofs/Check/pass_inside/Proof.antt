@@ -10,6 +10,9 @@ is-settled-requires c κs = search needs
 returns : tie.Need-returns
 returns c = search needs
 
+inner-table-requires : tie.Need-inner-table-requires
+inner-table-requires c κs = search needs
+
 inside-from-requires : tie.Need-inside-from-requires
 inside-from-requires c κs = search needs
 
@@ -24,9 +27,9 @@ jumped-requires c κs = search needs
 
 returns-2 : tie.Need-returns-2
 returns-2 c =
-    let a = c .before .before .before .before .before .before .before in
+    let a = c .before .before .before .before .before .before .before .before .before in
     let r = c .before .before .before .inside-from in
-    let settled = c .before .before .before .before .before .is-settled .ensures (not-false _ (c .before .before .before .before .if1 .left)) (a .pre .1 .0) (a .pre .1 .1) in
+    let settled = c .before .before .before .before .before .before .before .is-settled .ensures (not-false _ (c .before .before .before .before .before .before .if1 .left)) (a .pre .1 .0) (a .pre .1 .1) in
     rw (c .jumped .ensures, c .before .spot .ensures) (record { on = r .ensures .on; within = r .ensures .within; same = r .ensures .same (a .args .self) settled })
 
 pub pass-inside-spec : {M : Type 1} → statement M
@@ -35,6 +38,7 @@ pass-inside-spec =
     (tie.spec
     is-settled-requires
     returns
+    inner-table-requires
     inside-from-requires
     sub-spot
     spot-requires

@@ -4,6 +4,8 @@ use mathlib.Core.Path.{_≡_, refl, sym, ap, _∙_}
 use native.Mathlib.Omega.{arith}
 use lib.ListN.{length}
 use lib.Count.{trailingZeros}
+use Rattle.runs.specs.Runs.{isInner}
+use Rattle.runs.specs.Words.{Marks}
 use Rattle.runs.proofs.Words.{block}
 use Rattle.pieces.specs.declared.Walk.{Walk}
 use Rattle.pieces.specs.Walk.{placedAt, Walking}
@@ -13,26 +15,27 @@ use Rattle.pieces.proofs.Check.walk.Statement.{statement}
 use Rattle.pieces.proofs.Check.walk.Tie as tie
 
 abbrev Inv-loop2 : tie.InvT-loop2
-Inv-loop2 self t s at x₀ i e w₀ x w = Reading self t s at x e w
+Inv-loop2 self t inner s at x₀ i e w₀ x w = Reading self t s at x e w × Marks inner isInner
 
 abbrev μ-loop2 : tie.MeasureT-loop2
-μ-loop2 self t s at x₀ i e w₀ x w = length s - x .at
+μ-loop2 self t inner s at x₀ i e w₀ x w = length s - x .at
 
 abbrev Inv-loop : tie.InvT-loop
-Inv-loop self t s at x₀ x = Walking self s at x × Ground self t s
+Inv-loop self t inner s at x₀ x = Walking self s at x × Ground self t s × Marks inner isInner
 
 abbrev μ-loop : tie.MeasureT-loop
-μ-loop self t s at x₀ x = length s - x .at
+μ-loop self t inner s at x₀ x = length s - x .at
 
-cast-t11 : tie.Need-cast-t11 Inv-loop2 μ-loop2 Inv-loop μ-loop
-cast-t11 c = omega (arith, c .struct-known .given)
+cast-t12 : tie.Need-cast-t12 Inv-loop2 μ-loop2 Inv-loop μ-loop
+cast-t12 c = omega (arith, c .struct-known .given)
 
 loop-holds : tie.Need-loop-holds Inv-loop2 μ-loop2 Inv-loop μ-loop
 loop-holds c =
     let a = c .before .before in
     let known = c .before .shared-slice-known .given in (
-      walking-start (a .args .self) (a .args .s .now) (a .args .at) (a .pre .1 .0) (omega (arith, c .struct-known .given)) (a .pre .0),
-      record { stops = a .pre .1 .1; bytes = λ j. omega (arith, known j) },
+      walking-start (a .args .self) (a .args .s .now) (a .args .at) (a .pre .1 .1 .0) (omega (arith, c .struct-known .given)) (a .pre .0),
+      record { stops = a .pre .1 .1 .1; bytes = λ j. omega (arith, known j) },
+      a .pre .1 .0,
     )
 
 block-end-requires : tie.Need-block-end-requires Inv-loop2 μ-loop2 Inv-loop μ-loop
@@ -47,14 +50,14 @@ loop2-holds c =
     let l = c .before .before .before .before .loop in
     let k = block (a .t .now) (a .s .now) (l .x .at) (c .marks-64 .result) (c .before .before .if1 .taken) (c .marks-64 .ensures) in
     let e = c .before .block-end .ensures in
-    record { walking = l .inv .0; ground = l .inv .1; marked = rw (sym e) at (k .marked); within = omega (arith, e, k .within); small = omega (arith, e, k .small) }
+    (record { walking = l .inv .0; ground = l .inv .1; marked = rw (sym e) at (k .marked); within = omega (arith, e, k .within); small = omega (arith, e, k .small) }, l .inv .2)
 
 cast-placed-at : tie.Need-cast-placed-at Inv-loop2 μ-loop2 Inv-loop μ-loop
 cast-placed-at c =
     let a = c .before .before .before .before .before .before .before .before .before in
     let l = c .before .loop2 in
     let e = c .before .before .before .block-end .result in
-    let m = first-mark (a .args .self) (a .args .t .now) (a .args .s .now) (a .args .at) (l .x) e (l .w) (l .inv) (c .loop2-test .taken) in
+    let m = first-mark (a .args .self) (a .args .t .now) (a .args .s .now) (a .args .at) (l .x) e (l .w) (l .inv .0) (c .loop2-test .taken) in
     let low = m .low in
     let inside = m .inside in
     let short = m .short in
@@ -65,7 +68,7 @@ add-placed-at c =
     let a = c .before .before .before .before .before .before .before .before .before .before in
     let l = c .before .before .loop2 in
     let e = c .before .before .before .before .block-end .result in
-    let m = first-mark (a .args .self) (a .args .t .now) (a .args .s .now) (a .args .at) (l .x) e (l .w) (l .inv) (c .before .loop2-test .taken) in
+    let m = first-mark (a .args .self) (a .args .t .now) (a .args .s .now) (a .args .at) (l .x) e (l .w) (l .inv .0) (c .before .loop2-test .taken) in
     let low = m .low in
     let inside = m .inside in
     let short = m .short in
@@ -79,18 +82,18 @@ at-mark-requires c κs =
     let a = c .before .before .before .before .before .before .before .before .before .before .before in
     let l = c .before .before .before .loop2 in
     let e = c .before .before .before .before .before .block-end .result in
-    let m = first-mark (a .args .self) (a .args .t .now) (a .args .s .now) (a .args .at) (l .x) e (l .w) (l .inv) (c .before .before .loop2-test .taken) in
+    let m = first-mark (a .args .self) (a .args .t .now) (a .args .s .now) (a .args .at) (l .x) e (l .w) (l .inv .0) (c .before .before .loop2-test .taken) in
     let low = m .low in
     let inside = m .inside in
     let short = m .short in
-    rw (c .placed-at .ensures) (sized (a .args .self) (a .args .s .now) (a .args .at) (placedAt (l .x) (l .x .at + trailingZeros 64 (l .w))) (m .walking) inside)
+    (l .inv .1, rw (c .placed-at .ensures) (sized (a .args .self) (a .args .s .now) (a .args .at) (placedAt (l .x) (l .x .at + trailingZeros 64 (l .w))) (m .walking) inside))
 
 returns : tie.Need-returns Inv-loop2 μ-loop2 Inv-loop μ-loop
 returns c =
     let a = c .before .before .before .before .before .before .before .before .before .before .before .before .before .before .before in
     let l = c .before .before .before .before .before .before .before .loop2 in
     let e = c .before .before .before .before .before .before .before .before .before .block-end .result in
-    let m = first-mark (a .args .self) (a .args .t .now) (a .args .s .now) (a .args .at) (l .x) e (l .w) (l .inv) (c .before .before .before .before .before .before .loop2-test .taken) in
+    let m = first-mark (a .args .self) (a .args .t .now) (a .args .s .now) (a .args .at) (l .x) e (l .w) (l .inv .0) (c .before .before .before .before .before .before .loop2-test .taken) in
     let low = m .low in
     let inside = m .inside in
     let short = m .short in
@@ -101,7 +104,7 @@ cast-shifted c =
     let a = c .before .before .before .before .before .before .before .before .before .before .before .before .before .before .before in
     let l = c .before .before .before .before .before .before .before .loop2 in
     let e = c .before .before .before .before .before .before .before .before .before .block-end .result in
-    let m = first-mark (a .args .self) (a .args .t .now) (a .args .s .now) (a .args .at) (l .x) e (l .w) (l .inv) (c .before .before .before .before .before .before .loop2-test .taken) in
+    let m = first-mark (a .args .self) (a .args .t .now) (a .args .s .now) (a .args .at) (l .x) e (l .w) (l .inv .0) (c .before .before .before .before .before .before .loop2-test .taken) in
     let low = m .low in
     let inside = m .inside in
     let short = m .short in
@@ -112,7 +115,7 @@ shr-shifted c =
     let a = c .before .before .before .before .before .before .before .before .before .before .before .before .before .before .before in
     let l = c .before .before .before .before .before .before .before .loop2 in
     let e = c .before .before .before .before .before .before .before .before .before .block-end .result in
-    let m = first-mark (a .args .self) (a .args .t .now) (a .args .s .now) (a .args .at) (l .x) e (l .w) (l .inv) (c .before .before .before .before .before .before .loop2-test .taken) in
+    let m = first-mark (a .args .self) (a .args .t .now) (a .args .s .now) (a .args .at) (l .x) e (l .w) (l .inv .0) (c .before .before .before .before .before .before .loop2-test .taken) in
     let low = m .low in
     let inside = m .inside in
     let short = m .short in
@@ -129,7 +132,7 @@ loop2-less c =
     let a = c .before .before .before .before .before .before .before .before .before .before .before .before .before .before .before .before .before .before in
     let l = c .before .before .before .before .before .before .before .before .before .before .loop2 in
     let e = c .before .before .before .before .before .before .before .before .before .before .before .before .block-end .result in
-    let m = first-mark (a .args .self) (a .args .t .now) (a .args .s .now) (a .args .at) (l .x) e (l .w) (l .inv) (c .before .before .before .before .before .before .before .before .before .loop2-test .taken) in
+    let m = first-mark (a .args .self) (a .args .t .now) (a .args .s .now) (a .args .at) (l .x) e (l .w) (l .inv .0) (c .before .before .before .before .before .before .before .before .before .loop2-test .taken) in
     let low = m .low in
     let inside = m .inside in
     let short = m .short in
@@ -145,16 +148,18 @@ loop2-again c =
     let a = c .before .before .before .before .before .before .before .before .before .before .before .before .before .before .before .before .before .before in
     let l = c .before .before .before .before .before .before .before .before .before .before .loop2 in
     let e = c .before .before .before .before .before .before .before .before .before .before .before .before .block-end .result in
-    let m = first-mark (a .args .self) (a .args .t .now) (a .args .s .now) (a .args .at) (l .x) e (l .w) (l .inv) (c .before .before .before .before .before .before .before .before .before .loop2-test .taken) in
+    let m = first-mark (a .args .self) (a .args .t .now) (a .args .s .now) (a .args .at) (l .x) e (l .w) (l .inv .0) (c .before .before .before .before .before .before .before .before .before .loop2-test .taken) in
     let low = m .low in
     let inside = m .inside in
     let short = m .short in
     let y = c .before .before .before .before .before .before .before .placed-at in
     let z = c .before .before .before .before .before .before .at-mark in
     let on = z .ensures .on in
-    let at : y .result .at ≡ l .x .at + trailingZeros 64 (l .w) = ap (λ (q : Walk). q .at) (y .ensures) in
-    goes-on (a .args .self) (a .args .t .now) (a .args .s .now) (a .args .at) (l .x) e (l .w) (l .inv) (trailingZeros 64 (l .w)) (z .result .at - y .result .at) (c .shifted .result) (z .result)
-    (omega arith) (z .ensures .goes (a .args .at) (rw (y .ensures) (m .walking))) (c .shifted .ensures)
+    let at : y .result .at ≡ l .x .at + trailingZeros 64 (l .w) = ap (λ (q : Walk). q .at) (y .ensures) in (
+      goes-on (a .args .self) (a .args .t .now) (a .args .s .now) (a .args .at) (l .x) e (l .w) (l .inv .0) (trailingZeros 64 (l .w)) (z .result .at - y .result .at) (c .shifted .result) (z .result)
+          (omega arith) (z .ensures .goes (a .args .at) (rw (y .ensures) (m .walking))) (c .shifted .ensures),
+      l .inv .1,
+    )
 
 later-requires : tie.Need-later-requires Inv-loop2 μ-loop2 Inv-loop μ-loop
 later-requires c κs = tt
@@ -165,8 +170,8 @@ placed-at-requires-2 c κs = tt
 loop-less : tie.Need-loop-less Inv-loop2 μ-loop2 Inv-loop μ-loop
 loop-less c =
     let l = c .before .before .before .loop2 in
-    let within = l .inv .within in
-    let walk = l .inv .walking .within in
+    let within = l .inv .0 .within in
+    let walk = l .inv .0 .walking .within in
     let e = c .before .before .before .before .before .block-end .ensures in
     let at = ap (λ (q : Walk). q .at) (c .placed-at2 .ensures) in
     let on = c .before .before .before .before .before .before .if1 .taken in
@@ -177,8 +182,8 @@ loop-again c =
     let a = c .before .before .before .before .before .before .before .before .before .before .before in
     let l = c .before .before .before .loop2 in
     let e = c .before .before .before .before .before .block-end .result in
-    let s = no-mark (a .args .self) (a .args .t .now) (a .args .s .now) (a .args .at) (l .x) e (l .w) (l .inv) (c .before .before .loop2-test .left) in
-    (rw (c .placed-at2 .ensures, c .before .later .ensures) s, l .inv .ground)
+    let s = no-mark (a .args .self) (a .args .t .now) (a .args .s .now) (a .args .at) (l .x) e (l .w) (l .inv .0) (c .before .before .loop2-test .left) in
+    (rw (c .placed-at2 .ensures, c .before .later .ensures) s, l .inv .0 .ground, l .inv .1)
 
 returns-2 : tie.Need-returns-2 Inv-loop2 μ-loop2 Inv-loop μ-loop
 returns-2 c = c .before .before .loop .inv .0
@@ -191,7 +196,7 @@ walk-spec =
     μ-loop2
     Inv-loop
     μ-loop
-    cast-t11
+    cast-t12
     loop-holds
     block-end-requires
     marks-64-requires
