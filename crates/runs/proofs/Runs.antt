@@ -25,22 +25,6 @@ module _ (p : ℕ → Bool) where
   unfolding run
   run-none s i h = rw (drop-of-length-le s h)
 
-  -- a block, whose bytes all have the property
-  pub run-skip :
-      (n : ℕ) (s : Bytes) (i : ℕ) → i + n ≤ length s → ((k : ℕ) → k < n → p (getD s (i + k) 0) ≡ true) → run p (drop i s) ≡ n + run p (drop (i + n) s)
-  run-skip zero s i h f =
-      let e : i ≡ i + 0 = omega arith in
-      omega (arith, ap (λ (j : ℕ). run p (drop j s)) e)
-  run-skip (suc n) s i h f =
-      let e : i + 0 ≡ i = omega arith in
-      let first : p (getD s i 0) ≡ true = rw e at (f 0 (omega arith)) in
-      let later : (k : ℕ) → k < n → p (getD s (i + 1 + k) 0) ≡ true = λ k q. rw (turn k) (f (suc k) (omega arith)) in
-      let rest : i + 1 + n ≡ i + suc n = omega arith in
-      omega (arith, run-more s i (omega arith) first, run-skip n s (i + 1) (omega arith) later, ap (λ (j : ℕ). run p (drop j s)) rest)
-    where
-      turn : (k : ℕ) → i + 1 + k ≡ i + suc k
-      turn k = omega arith
-
 pub run-le : (p : ℕ → Bool) (f : Bytes) → run p f ≤ length f
 unfolding run
 run-le p [] = omega arith
@@ -130,8 +114,8 @@ module _ (p : ℕ → Bool) (s : Bytes) (from i : ℕ) where
   pub passed-more : Passed p s from i → i < length s → p (getD s i 0) ≡ true → Passed p s from (i + 1)
   passed-more h l e = (omega arith, omega (arith, run-more p s i l e))
 
-  pub passed-block : (n : ℕ) → Passed p s from i → i + n ≤ length s → ((k : ℕ) → k < n → p (getD s (i + k) 0) ≡ true) → Passed p s from (i + n)
-  passed-block n h l e = (omega arith, omega (arith, run-skip p n s i l e))
+  pub passed-part : (k : ℕ) → Passed p s from i → k ≤ run p (drop i s) → Passed p s from (i + k)
+  passed-part k h l = (omega arith, omega (arith, run-part p s i k l))
 
   pub passed-stops : Passed p s from i → i < length s → p (getD s i 0) ≡ false → i - from ≡ run p (drop from s)
   passed-stops h l e = omega (arith, run-stops p s i l e)
@@ -139,18 +123,13 @@ module _ (p : ℕ → Bool) (s : Bytes) (from i : ℕ) where
   pub passed-end : Passed p s from i → length s ≤ i → i - from ≡ run p (drop from s)
   passed-end h l = omega (arith, run-none p s i l)
 
-pub passed-part : (p : ℕ → Bool) (s : Bytes) (from k : ℕ) → k ≤ run p (drop from s) → Passed p s from (from + k)
-passed-part p s from k h = (omega arith, omega (arith, run-part p s from k h))
-
 -- a walk by blocks of 16
 abbrev pub Blocks : (ℕ → Bool) → Bytes → ℕ → ℕ → Type 0
-Blocks p s from i = (from ≤ i) × (i ≤ length s) × ((i - from) % 16 ≡ 0) × (i - from + run p (drop i s) ≡ run p (drop from s))
+Blocks p s from i = (i ≤ length s) × ((i - from) % 16 ≡ 0) × Passed p s from i
 
 module _ (p : ℕ → Bool) (s : Bytes) (from i : ℕ) where
   pub blocks-more : Blocks p s from i → i + 16 ≤ length s → true ≡ leb 16 (run p (drop i s)) → Blocks p s from (i + 16)
-  blocks-more h l e =
-      let q = leb-true 16 (run p (drop i s)) (sym e) in
-      (omega arith, l, omega arith, omega (arith, run-part p s i 16 q))
+  blocks-more h l e = (l, omega arith, passed-part p s from i 16 (h .2) (leb-true 16 (run p (drop i s)) (sym e)))
 
   blocks-under : Blocks p s from i → run p (drop i s) < 16 → i - from ≡ run p (drop from s) / 16 * 16
   blocks-under h l = omega arith
@@ -204,25 +183,28 @@ pairs-skip (suc n) s i h f =
     turn : (k : ℕ) → i + 2 + k ≡ i + (k + 2)
     turn k = omega arith
 
--- a walk from a place stands at i, behind n pairs
+-- a walk stands at i, behind n pairs of all
 abbrev pub Paired : Bytes → ℕ → ℕ → ℕ → Type 0
-Paired s from n i = (i ≤ length s) × (n + n ≤ i) × (n + pairs (drop i s) ≡ pairs (drop from s))
+Paired s all n i = (i ≤ length s) × (n + n ≤ i) × (n + pairs (drop i s) ≡ all)
 
-module _ (s : Bytes) (from n i : ℕ) (h : Paired s from n i) where
-  pub paired-more : i + 2 ≤ length s → getD s i 0 ≡ 0x22 → getD s (i + 1) 0 ≡ 0x22 → Paired s from (n + 1) (i + 2)
+module _ (s : Bytes) (all n i : ℕ) (h : Paired s all n i) where
+  pub paired-more : i + 2 ≤ length s → getD s i 0 ≡ 0x22 → getD s (i + 1) 0 ≡ 0x22 → Paired s all (n + 1) (i + 2)
   paired-more l a b = (l, omega arith, omega (arith, pairs-more s i l a b))
 
-  pub paired-block : i + 64 ≤ length s → ((k : ℕ) → k < 64 → getD s (i + k) 0 ≡ 0x22) → Paired s from (n + 32) (i + 64)
+  pub paired-block : i + 64 ≤ length s → ((k : ℕ) → k < 64 → getD s (i + k) 0 ≡ 0x22) → Paired s all (n + 32) (i + 64)
   paired-block l e = (l, omega arith, omega (arith, pairs-skip 32 s i l e))
 
-  pub paired-first : i + 2 ≤ length s → (getD s i 0 ≡ 0x22 → ⊥) → n ≡ pairs (drop from s)
+  pub paired-first : i + 2 ≤ length s → (getD s i 0 ≡ 0x22 → ⊥) → n ≡ all
   paired-first l e = omega (arith, pairs-stops s i l (rw (ne-eqb (getD s i 0) 0x22 e)))
 
-  pub paired-second : i + 2 ≤ length s → (getD s (i + 1) 0 ≡ 0x22 → ⊥) → n ≡ pairs (drop from s)
+  pub paired-second : i + 2 ≤ length s → (getD s (i + 1) 0 ≡ 0x22 → ⊥) → n ≡ all
   paired-second l e = omega (arith, pairs-stops s i l (rw (ne-eqb (getD s (i + 1) 0) 0x22 e) (and-false (eqb (getD s i 0) 0x22))))
 
-  pub paired-end : length s - i < 2 → n ≡ pairs (drop from s)
+  pub paired-end : length s - i < 2 → n ≡ all
   paired-end l = omega (arith, pairs-end s i l)
+
+pub paired-begins : (s : Bytes) (i : ℕ) → i ≤ length s → Paired s (pairs (drop i s)) 0 i
+paired-begins s i h = (h, omega arith, omega arith)
 
 -- both parts of a test
 pub and-both : (x y : Bool) → (x && y) ≡ true → (x ≡ true) × (y ≡ true)

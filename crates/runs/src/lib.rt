@@ -110,20 +110,13 @@ fn quote_block(s: &[u8], at: usize) -> bool
     all
 }
 
-// How many pairs of quotes stand from a place on, one behind the other. A block is tried only where
-// a second pair follows the first.
-pub fn pair_run(s: &[u8], from: usize) -> usize
-    ensures { λ r. ⌜ r ≡ pairs (drop from (now (s .entry))) ⌝ }
+// How many pairs of quotes stand from a place on, one behind the other, and the count before it.
+fn pairs_on(s: &[u8], at: usize, count: usize) -> usize
+    requires { ⌜ (at ≤ length (now s)) × (count + count ≤ at) ⌝ }
+    ensures { λ r. ⌜ r ≡ count + pairs (drop at (now (s .entry))) ⌝ }
 {
-    if s.len() <= from {
-        return 0;
-    }
-    let mut i = from;
-    let mut n = 0;
-    while 64 <= s.len() - i && s[i] == 0x22 && s[i + 32] == 0x22 && quote_block(s, i) {
-        i += 64;
-        n += 32;
-    }
+    let mut i = at;
+    let mut n = count;
     while 2 <= s.len() - i {
         if s[i] != 0x22 {
             return n;
@@ -135,6 +128,35 @@ pub fn pair_run(s: &[u8], from: usize) -> usize
         n += 1;
     }
     n
+}
+
+// How many pairs of quotes stand from a place on, one behind the other. None and one are answered
+// first, and a block is tried only where a quote follows the first pair.
+pub fn pair_run(s: &[u8], from: usize) -> usize
+    ensures { λ r. ⌜ r ≡ pairs (drop from (now (s .entry))) ⌝ }
+{
+    if s.len() <= from {
+        return 0;
+    }
+    if s.len() - from < 4 {
+        return pairs_on(s, from, 0);
+    }
+    if s[from] != 0x22 {
+        return 0;
+    }
+    if s[from + 1] != 0x22 {
+        return 0;
+    }
+    if s[from + 2] != 0x22 {
+        return 1;
+    }
+    let mut i = from;
+    let mut n = 0;
+    while 64 <= s.len() - i && s[i] == 0x22 && s[i + 32] == 0x22 && quote_block(s, i) {
+        i += 64;
+        n += 32;
+    }
+    pairs_on(s, i, n)
 }
 
 // The word of 16 bytes by a table of marks, the first byte lowest.

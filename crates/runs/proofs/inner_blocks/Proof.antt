@@ -1,9 +1,9 @@
 -- `runs::inner_blocks` meets its contract. The loop's invariant: whole blocks are passed, and they and the run that is left come to the whole run.
-use Prim.Native.Nat.{ℕ, _+_, _-_, _*_, _/_, _≤_, _<_}
+use Prim.Native.Nat.{_+_, _-_, _≤_}
 use native.Mathlib.Omega.{arith}
-use mathlib.Core.Path.{_≡_, sym, _∙_}
+use mathlib.Core.Path.{sym, _∙_}
 use borrow.Author.Tests.{not-true, not-false}
-use lib.ListN.{length, drop}
+use lib.ListN.{length}
 use Rattle.runs.proofs.Runs.{run-none, Blocks, blocks-more, blocks-stop, blocks-end}
 use Rattle.runs.specs.Runs.{isInner}
 use Rattle.runs.proofs.inner_blocks.Statement.{statement}
@@ -21,7 +21,7 @@ returns c =
     omega (arith, run-none isInner (a .s .now) (a .from) (c .if1 .taken))
 
 loop-holds : tie.Need-loop-holds Inv-loop μ-loop
-loop-holds c = (omega arith, omega (arith, c .if1 .left), omega arith, omega arith)
+loop-holds c = (omega (arith, c .if1 .left), omega arith, (omega arith, omega arith))
 
 sub-loop : tie.Need-sub-loop Inv-loop μ-loop
 sub-loop c = omega arith

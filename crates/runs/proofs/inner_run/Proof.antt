@@ -1,7 +1,7 @@
 -- `runs::inner_run` meets its contract. The loop's invariant: what is passed and the run that is left come to the whole run.
-use Prim.Native.Nat.{ℕ, _+_, _-_, _*_, _/_, _≤_, _<_}
+use Prim.Native.Nat.{_-_}
 use native.Mathlib.Omega.{arith}
-use mathlib.Core.Path.{_≡_, sym, _∙_}
+use mathlib.Core.Path.{sym, _∙_}
 use borrow.Author.Tests.{not-true, not-false}
 use lib.ListN.{length, drop, length-drop}
 use Rattle.runs.proofs.Runs.{run-le, Passed, passed-part, passed-more, passed-stops, passed-end}
@@ -24,7 +24,7 @@ add-i c =
     omega (arith, c .inner-blocks .ensures, run-le isInner (drop (a .from) (a .s .now)), length-drop (a .from) (a .s .now))
 
 loop-holds : tie.Need-loop-holds Inv-loop μ-loop
-loop-holds c = passed-part _ _ _ _ (omega (arith, c .inner-blocks .ensures))
+loop-holds c = passed-part _ _ _ _ _ (omega arith, omega arith) (omega (arith, c .inner-blocks .ensures))
 
 shared-slice-read-is-inner : tie.Need-shared-slice-read-is-inner Inv-loop μ-loop
 shared-slice-read-is-inner c = omega arith

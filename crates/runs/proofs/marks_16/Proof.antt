@@ -1,8 +1,6 @@
 -- `runs::marks_16` meets its contract.
-use Prim.Native.Nat.{_+_, _-_, _≤_, _<_}
 use mathlib.Core.Path.{_∙_}
 use native.Mathlib.Omega.{arith}
-use lib.ListN.{length}
 use Rattle.runs.proofs.Words.{part-short}
 use borrow.Author.Needs.{needs}
 use Rattle.runs.proofs.marks_16.Statement.{statement}
