@@ -1,18 +1,16 @@
 -- A walk by words of marks: where it stands, and what a mark, a block without one and a shift change.
 use Prim.Native.Nat.{ℕ, _+_, _-_, _/_, _^_, _≤_, _<_}
 use native.Mathlib.Omega.{arith}
-use mathlib.Core.Path.{_≡_, refl, sym, ap, _∙_}
-use mathlib.Core.Bool.{Bool, true, false}
+use mathlib.Core.Path.{_≡_, _∙_}
+use mathlib.Core.Bool.{Bool}
 use mathlib.Core.List.{List}
 use lib.Count.{trailingZeros}
-use lib.Dec.{leb}
-use lib.ListN.{length, getD, take, drop}
-use borrow.Author.Tests.{leb-true, leb-false}
+use lib.ListN.{length, getD}
 use Rattle.format.specs.Table.{Bytes}
 use Rattle.format.specs.Dialect.{dialect}
 use Rattle.runs.specs.Runs.{isPlain}
-use Rattle.runs.specs.Words.{word, Stops}
-use Rattle.runs.proofs.Words.{Marked, marked-on, marked-none, marked-some, marked-past}
+use Rattle.runs.specs.Words.{Stops}
+use Rattle.runs.proofs.Words.{Marked, marked-on, marked-none, marked-some}
 use Rattle.pieces.specs.declared.Check.{Check}
 use Rattle.pieces.specs.declared.Walk.{Walk}
 use Rattle.pieces.specs.Walk.{placedAt, Sized, Walking}
@@ -63,25 +61,15 @@ module _ (c : Check) (t : List Bool) (s : Bytes) (a : ℕ) (x : Walk) (e w : ℕ
 
   -- further on, with the marks that are left
   pub goes-on :
-      (k n v : ℕ) (y : Walk) → x .at + k + n ≡ y .at → Walking c s a y → (n < 64 → v ≡ w / 2 ^ k / 2 ^ n) × (64 ≤ n → v ≡ 0) → Reading c t s a y e v
+      (k n v : ℕ) (y : Walk) → x .at + k + n ≡ y .at → Walking c s a y → v ≡ w / 2 ^ k / 2 ^ n → Reading c t s a y e v
   goes-on k n v y q h g =
       record {
         walking = h;
         ground = r .ground;
-        marked = go (leb 64 n) refl;
+        marked = rw q at (g ∙ marked-on t P (r .ground .stops) s (r .ground .bytes) e (x .at + k) (w / 2 ^ k) (marked-on t P (r .ground .stops) s (r .ground .bytes) e (x .at) w (r .marked) k) n);
         within = r .within;
         small = let small = r .small in omega arith;
       }
     where
       P : ℕ → Bool
       P = isPlain (dialect (c .delimiter) (c .leniencies))
-
-      there : (u : ℕ) → Marked t s e (x .at + k + n) u → Marked t s e (y .at) u
-      there u m = rw q at m
-
-      go : (b : Bool) → leb 64 n ≡ b → Marked t s e (y .at) v
-      go true b =
-          let l = leb-true 64 n b in
-          there v (g .1 l ∙ marked-past t s e (x .at + k + n) (let small = r .small in omega arith))
-      go false b =
-          there v (g .0 (leb-false 64 n b) ∙ marked-on t P (r .ground .stops) s (r .ground .bytes) e (x .at + k) (w / 2 ^ k) (marked-on t P (r .ground .stops) s (r .ground .bytes) e (x .at) w (r .marked) k) n)

@@ -296,13 +296,6 @@ fn row_on(x: Walk, next: usize, content: usize, lines: usize) -> Walk
     }
 }
 
-// A word of marks without its first n.
-fn shifted(w: u64, n: usize) -> u64
-    ensures { λ r. ⌜ (n < 64 → r ≡ w / 2 ^ n) × (64 ≤ n → r ≡ 0) ⌝ }
-{
-    if n < 64 { w >> (n as u64) } else { 0 }
-}
-
 // The place that names nothing.
 fn nowhere() -> Place
     ensures { λ r. ⌜ r ≡ place 0 0 0 ⌝ }
@@ -681,7 +674,7 @@ impl Check {
                 if x.at == y.at {
                     return x;
                 }
-                w = shifted(w >> k, x.at - y.at);
+                w = runs::shifted(w >> k, x.at - y.at);
             }
             x = placed_at(x, runs::later(x.at, e));
         }

@@ -7,14 +7,13 @@ use mathlib.Core.Bool.{Bool, true, false}
 use mathlib.Core.List.{List, _∷_, _++_}
 use lib.ListN.{length, getD, set, take, drop, length-drop}
 use lib.Seq.{sets, drop-cons, drop-drop, length-take-le}
-use borrow.Author.Tests.{ne-eqb}
 use Rattle.format.specs.Table.{Bytes}
 use Rattle.format.specs.Dialect.{lf, Dialect, text, delimiter, quote, CR, classOf}
 use Rattle.format.specs.Filling.{Filling}
 use Rattle.format.proofs.Filling.{meant, move, room-at, room-for, same-size, stay, push, pushes}
 use Rattle.steps.specs.Steps.{Form, start, bare, quoted, shut, cr, nothing, put, field-end, go, stepOf}
 use Rattle.steps.specs.Numbers.{formOf}
-use Rattle.runs.specs.Runs.{run, isPlain}
+use Rattle.runs.specs.Runs.{run, isPlain, isInner}
 use Rattle.runs.proofs.Runs.{run-within}
 use Rattle.format.proofs.Classes.{delimiter-at, quote-beside, CR-beside, LF-beside}
 use Rattle.runs.proofs.Bytes.{plain-class}
@@ -22,6 +21,7 @@ use Rattle.reader.specs.declared.Head.{Head}
 use Rattle.reader.specs.Fill.{textLeft, endsLeft, rowsLeft}
 use Rattle.reader.specs.Walk.{textAhead, endsAhead, rowsAhead, Ready, Along, NoQuote, BreakAt}
 use Rattle.reader.proofs.Copy.{text-run, ends-run, rows-run, two-at}
+use Rattle.reader.proofs.Quoted.{puts-inner}
 
 -- a form in which a field may end
 pub record Ending (y : Bool) (k : Form) : Type 0 where
@@ -76,9 +76,8 @@ bare-to d f b i o v l =
     rw e at (bare-content d f b (i - b) (omega arith) l)
 
 -- a quoted one
-puts-quoted : (d : Dialect) (k : Form) → k ≡ quoted → (b : ℕ) → isPlain d b ≡ true → stepOf (d .allows lf) k (classOf d b) ≡ go quoted put
-unfolding stepOf
-puts-quoted d k s b e = rw (s, plain-class d b e)
+puts-quoted : (d : Dialect) (k : Form) → k ≡ quoted → (b : ℕ) → isInner b ≡ true → stepOf (d .allows lf) k (classOf d b) ≡ go quoted put
+puts-quoted d k s b e = rw s (puts-inner b e d)
 
 ending-shut : (y : Bool) → Ending y shut
 unfolding stepOf
@@ -112,7 +111,7 @@ module _ (d : Dialect) (o : NoQuote d) (f : Bytes) (i : ℕ) (v : i < length f) 
 -- from the quote at b to that at z
 module _
     (d : Dialect) (o : NoQuote d) (f : Bytes) (b z : ℕ) (l : b < z) (v : z < length f) (e₁ : getD f b 0 ≡ 0x22) (e₂ : getD f z 0 ≡ 0x22)
-    (h : z - (b + 1) ≤ run (isPlain d) (drop (b + 1) f))
+    (h : z - (b + 1) ≤ run isInner (drop (b + 1) f))
   where
     there : drop (z - (b + 1)) (drop (b + 1) f) ≡ drop z f
     there = let e : b + 1 + (z - (b + 1)) ≡ z = omega arith in drop-drop (z - (b + 1)) (b + 1) f ∙ ap (λ (j : ℕ). drop j f) e
@@ -127,15 +126,15 @@ module _
           room = omega arith;
           text-to = λ rest q.
               open-text d o f b before e₁
-              ∙ text-run d (isPlain d) (λ (k : Form). k ≡ quoted) quoted refl (puts-quoted d) (z - (b + 1)) (drop (b + 1) f) rest h
+              ∙ text-run d isInner (λ (k : Form). k ≡ quoted) quoted refl (puts-quoted d) (z - (b + 1)) (drop (b + 1) f) rest h
               (λ k s. rw (there, s) (shut-text d o f z v e₂ ∙ q shut (ending-shut _))) quoted refl;
           ends-to = λ n rest q u.
               open-ends d o f b before e₁ n u
-              ∙ ends-run d (isPlain d) (λ (k : Form). k ≡ quoted) quoted refl (puts-quoted d) (z - (b + 1)) (drop (b + 1) f) n rest h
+              ∙ ends-run d isInner (λ (k : Form). k ≡ quoted) quoted refl (puts-quoted d) (z - (b + 1)) (drop (b + 1) f) n rest h
               (λ k u s. rw (there, s) (shut-ends d o f z v e₂ (n + (z - (b + 1))) u ∙ q shut true (ending-shut _))) quoted true refl;
           rows-to = λ n rest q u.
               open-rows d o f b before e₁ n u
-              ∙ rows-run d (isPlain d) (λ (k : Form). k ≡ quoted) quoted refl (puts-quoted d) (z - (b + 1)) (drop (b + 1) f) n rest h
+              ∙ rows-run d isInner (λ (k : Form). k ≡ quoted) quoted refl (puts-quoted d) (z - (b + 1)) (drop (b + 1) f) n rest h
               (λ k u s. rw (there, s) (shut-rows d o f z v e₂ n u ∙ q shut true (ending-shut _))) quoted true refl;
         }
 

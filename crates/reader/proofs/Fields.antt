@@ -11,7 +11,7 @@ use Rattle.format.specs.Table.{Bytes}
 use Rattle.format.specs.Dialect.{Dialect}
 use Rattle.format.specs.House.{fileLimit}
 use Rattle.format.proofs.Filling.{stay}
-use Rattle.runs.specs.Runs.{run, isPlain}
+use Rattle.runs.specs.Runs.{run, isPlain, isInner}
 use Rattle.runs.specs.Words.{word, blockEnd, Stops}
 use Rattle.runs.proofs.Runs.{run-join, run-within}
 use Rattle.runs.proofs.Words.{Marked, marked-on, marked-none, marked-some, block}
@@ -161,28 +161,18 @@ module _
           wide = let w = base .wide in omega (arith, sizes .2);
         }
 
--- plain text behind the first byte of a field
+-- bytes of content behind the first byte of a field
 pub up-to :
-    (d : Dialect) (f : Bytes) (q b k : ℕ) → q ≡ b → k ≤ run (isPlain d) (drop (q + 1) f) → q + 1 + k - (b + 1) ≤ run (isPlain d) (drop (b + 1) f)
-up-to d f q b k e h = rw (← e) (omega (arith, h))
-
--- the next mark from j on
-pub next-stop :
-    {d : Dialect} {t : List Bool} {f : Bytes} {p : Head} {text ends rows : List ℕ} → Base d t f p text ends rows → (e j w : ℕ) → Marked t f e j w
-    → e ≤ length f → e - j ≤ 64 → (w ≡ 0 → ⊥)
-    → (j + trailingZeros 64 w < length f) × (trailingZeros 64 w < 64) × (trailingZeros 64 w ≤ run (isPlain d) (drop j f))
-next-stop {d} {t} {f} base e j w k l h z =
-    let q = marked-some t (isPlain d) (base .stops) f (base .bytes) e j w k l h z in
-    (omega (arith, q .0), omega (arith, q .0), q .1)
+    (f : Bytes) (q b k : ℕ) → q ≡ b → k ≤ run isInner (drop (q + 1) f) → q + 1 + k - (b + 1) ≤ run isInner (drop (b + 1) f)
+up-to f q b k e h = rw (← e) (omega (arith, h))
 
 -- the word from a place behind it on
 pub marks-from :
-    {d : Dialect} {t : List Bool} {f : Bytes} {p : Head} {text ends rows : List ℕ} → Base d t f p text ends rows → (e j w k x : ℕ) → Marked t f e j w
-    → j + k ≤ x → Marked t f e x (w / 2 ^ k / 2 ^ (x - (j + k)))
-marks-from {d} {t} {f} base e j w k x h l =
-    let on = marked-on t (isPlain d) (base .stops) f (base .bytes) e j w h k in
-    let q : j + k + (x - (j + k)) ≡ x = omega arith in
-    rw q at (marked-on t (isPlain d) (base .stops) f (base .bytes) e (j + k) (w / 2 ^ k) on (x - (j + k)))
+    {d : Dialect} {t : List Bool} {f : Bytes} {p : Head} {text ends rows : List ℕ} → Base d t f p text ends rows → (e j w x : ℕ) → Marked t f e j w
+    → j ≤ x → Marked t f e x (w / 2 ^ (x - j))
+marks-from {d} {t} {f} base e j w x h l =
+    let q : j + (x - j) ≡ x = omega arith in
+    rw q at (marked-on t (isPlain d) (base .stops) f (base .bytes) e j w h (x - j))
 
 -- one walk behind another
 pub joined :

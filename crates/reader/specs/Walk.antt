@@ -7,7 +7,7 @@ use lib.ListN.{length, getD, drop}
 use Rattle.format.specs.Table.{Bytes}
 use Rattle.format.specs.Dialect.{Dialect}
 use Rattle.format.specs.House.{fileLimit}
-use Rattle.runs.specs.Runs.{run, isPlain}
+use Rattle.runs.specs.Runs.{run, isInner}
 use Rattle.steps.specs.Steps.{quoted}
 use Rattle.steps.specs.Numbers.{formOf}
 use Rattle.reader.specs.declared.Head.{Head}
@@ -95,7 +95,7 @@ pub record BreakAt (f : Bytes) (at : ℕ) : Type 0 where
   pub first : getD f at 0 ≡ 0x0D
   pub second : getD f (at + 1) 0 ≡ 0x0A
 
--- a quote at the start of a field, and plain text up to z
+-- a quote at the start of a field, and bytes of content up to z
 pub record Opened (d : Dialect) (f : Bytes) (p : Head) (z : ℕ) : Type 0 where
   pub form : p .form ≡ 0
   pub held : p .held ≡ 0
@@ -104,7 +104,7 @@ pub record Opened (d : Dialect) (f : Bytes) (p : Head) (z : ℕ) : Type 0 where
   pub quote : getD f (p .at) 0 ≡ 0x22
   pub further : p .at < z
   pub inside : z < length f
-  pub plain : z - (p .at + 1) ≤ run (isPlain d) (drop (p .at + 1) f)
+  pub inner : z - (p .at + 1) ≤ run isInner (drop (p .at + 1) f)
 
 -- at the start of that field or, behind the quote at z and a delimiter or a break, of the next
 pub record Closed (p : Head) (z : ℕ) (r : Head) : Type 0 where

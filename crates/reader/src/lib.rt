@@ -237,8 +237,8 @@ fn quoted_at(p: Head, at: usize, text: usize) -> Head
     }
 }
 
-// Writes fields of plain text, bare or quoted, from the start of one on, each copied where its end
-// is found, by words that mark the bytes which are no plain text.
+// Writes bare fields of plain text, and quoted ones of bytes that are content in every dialect, from
+// the start of one on, each copied where its end is found, by words that mark what is no plain text.
 fn pass_fields(
     stops: &[bool; 256],
     file: &[u8],
@@ -279,16 +279,16 @@ fn pass_fields(
                 if q != start {
                     return f;
                 }
-                if w == 0 {
+                let l = runs::inner_run(file, q + 1);
+                let z = q + 1 + l;
+                if z == file.len() {
                     return f;
                 }
-                let l = u64::trailing_zeros(w);
-                let z = q + 1 + (l as usize);
                 let s = pass_quoted(file, delimiter, leniencies, f, z, text, ends, rows);
                 if s.at == start {
                     return s;
                 }
-                w = w >> l >> ((s.at - z) as u32);
+                w = runs::shifted(w, s.at - (q + 1));
                 n = s.text;
                 m = s.ends;
                 r = s.rows;
@@ -315,8 +315,8 @@ fn pass_fields(
     field_start(p, start, n, m, r, begun)
 }
 
-// Writes a quoted field of plain text, from the quote at p to the next mark at z, where that is its
-// closing quote and the field ends behind it.
+// Writes a quoted field, from the quote at p to what stops its bytes at z, where that is its closing
+// quote and the field ends behind it.
 fn pass_quoted(
     file: &[u8],
     delimiter: u8,

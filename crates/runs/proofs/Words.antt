@@ -215,11 +215,6 @@ module _ (t : List Bool) (p : ℕ → Bool) (marks : Marks t p) (s : Bytes) (byt
       ap (trailingZeros 64) h ∙ first-word t (take (e - i) (drop i s)) 64 (omega (arith, block-length b)) q in
       (omega (arith, m, q, block-length b), omega (arith, m, text-le))
 
--- behind the end there are no marks
-pub marked-past : (t : List Bool) (s : Bytes) (e i : ℕ) → e ≤ i → Marked t s e i 0
-unfolding word
-marked-past t s e i h = let z : e - i ≡ 0 = omega arith in rw z
-
 -- the word of a part is one word, however far it reaches past the end
 pub part-short : (t : List Bool) (s : Bytes) (i n m : ℕ) → length s - i ≤ n → length s - i ≤ m → word t (take n (drop i s)) ≡ word t (take m (drop i s))
 part-short t s i n m h k = all n h ∙ sym (all m k)

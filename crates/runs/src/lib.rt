@@ -3,7 +3,7 @@
 // specs/Runs.antt says what a run is. Blocks are judged by loops that the compiler makes vectors of.
 ghost use mathlib.Core.Path.{_≡_};
 ghost use mathlib.Core.Bool.{true};
-ghost use Prim.Native.Nat.{ℕ, _+_, _-_, _*_, _/_, _<_, _≤_};
+ghost use Prim.Native.Nat.{ℕ, _+_, _-_, _*_, _/_, _^_, _<_, _≤_};
 ghost use lib.Dec.{leb};
 ghost use lib.ListN.{length, getD, take, drop};
 ghost use Rattle.format.specs.Dialect.{dialect};
@@ -276,6 +276,13 @@ pub fn since_lf(s: &[u8], from: usize) -> usize
         first -= 1;
     }
     s.len() - first
+}
+
+// A word without its first n marks.
+pub fn shifted(w: u64, n: usize) -> u64
+    ensures { λ r. ⌜ r ≡ w / 2 ^ n ⌝ }
+{
+    if n < 64 { w >> (n as u64) } else { 0 }
 }
 
 // The later of two places.

@@ -10,9 +10,10 @@ use lib.Seq.{sets}
 use lib.Count.{trailingZeros}
 use Rattle.format.specs.Dialect.{dialect}
 use Rattle.runs.proofs.Words.{Marked}
-use Rattle.runs.specs.Runs.{run, isPlain}
+use Rattle.runs.specs.Runs.{isInner}
+use Rattle.runs.proofs.Runs.{run-within}
 use Rattle.reader.specs.Walk.{Along, Opened, Closed}
-use Rattle.reader.proofs.Fields.{Base, Fields, Stop, block-at, fields-start, fields-end, here, based, sizes, joined, first-stop, no-stop, stop-on, stop-over, next-stop, marks-from, up-to, quoted-on, marked-content, field-on, row-on}
+use Rattle.reader.proofs.Fields.{Base, Fields, Stop, block-at, fields-start, fields-end, here, based, sizes, joined, first-stop, no-stop, stop-on, stop-over, marks-from, up-to, quoted-on, marked-content, field-on, row-on}
 use Rattle.reader.proofs.Content.{Break, field-at, of-form, from-field, along-along, field-fits, row-fits}
 use Rattle.reader.proofs.pass_fields.Statement.{statement}
 use Rattle.reader.proofs.pass_fields.Tie as tie
@@ -114,48 +115,47 @@ module _ (c : tie.In-loop2 Inv-loop2 μ-loop2 Inv-loop μ-loop) where
       let v = l .inv in
       stop-on (v .1) (v .0) (c .before .before .before .block-end .result) (l .w) (v .2) (v .3) (trailingZeros 64 (l .w))
 
-  abbrev next-mark : ℕ
-  next-mark = trailingZeros 64 (c .before .loop2 .w / 2 ^ trailingZeros 64 (c .before .loop2 .w) / 2 ^ 1)
+module _ (c : tie.After-inner-run Inv-loop2 μ-loop2 Inv-loop μ-loop) where
+  abbrev quote-turn : tie.In-loop2 Inv-loop2 μ-loop2 Inv-loop μ-loop
+  quote-turn = at-quote (c .before .before)
+
+  -- what stops the bytes behind it
+  run-inside : let a = start (outer (quote-turn .before)) .args in mark quote-turn + 1 + c .inner-run .result ≤ length (a .file .now)
+  run-inside =
+      let a = start (outer (quote-turn .before)) .args in
+      run-within isInner (a .file .now) (mark quote-turn + 1) (c .inner-run .result) (omega (arith, stop quote-turn .inside)) (omega (arith, c .inner-run .ensures))
 
 module _ (c : tie.Else4 Inv-loop2 μ-loop2 Inv-loop μ-loop) where
   abbrev turn : tie.In-loop2 Inv-loop2 μ-loop2 Inv-loop μ-loop
-  turn = at-quote (c .before .before)
+  turn = quote-turn (c .before)
 
-  next :
-      let a = start (outer (turn .before)) .args in
-      (mark turn + 1 + next-mark turn < length (a .file .now)) × (next-mark turn < 64)
-      × (next-mark turn ≤ run (isPlain (dialect (a .delimiter) (a .leniencies))) (drop (mark turn + 1) (a .file .now)))
-  next =
-      let l = turn .before .loop2 in
-      let v = l .inv in
-      let k = trailingZeros 64 (l .w) in
-      next-stop (v .1) (turn .before .before .before .block-end .result) (mark turn + 1) (l .w / 2 ^ k / 2 ^ 1) (behind-mark turn) (v .3) (omega (arith, v .4)) (c .if4 .left)
+  abbrev inner-end : ℕ
+  inner-end = mark turn + 1 + c .before .inner-run .result
 
   is-field :
       let l = turn .before .loop2 in
-      c .before .before .before .before .before .before .field-start .result ≡ field-at (l .start) (l .n) (l .m) (l .r) (l .begun)
+      c .before .before .before .before .before .before .before .field-start .result ≡ field-at (l .start) (l .n) (l .m) (l .r) (l .begun)
   is-field =
       let h = start (outer (turn .before)) .pre .1 .0 in
-      of-form (c .before .before .before .before .before .before .field-start .ensures) (h .0) (h .1)
+      of-form (c .before .before .before .before .before .before .before .field-start .ensures) (h .0) (h .1)
 
   opened :
       let a = start (outer (turn .before)) .args in let l = turn .before .loop2 in
-      Opened (dialect (a .delimiter) (a .leniencies)) (a .file .now) (field-at (l .start) (l .n) (l .m) (l .r) (l .begun)) (mark turn + 1 + next-mark turn)
+      Opened (dialect (a .delimiter) (a .leniencies)) (a .file .now) (field-at (l .start) (l .n) (l .m) (l .r) (l .begun)) inner-end
   opened =
       let a = start (outer (turn .before)) .args in
       let l = turn .before .loop2 in
-      let same : mark turn ≡ l .start = c .before .if3 .left in
-      let q = c .before .before .if2 .taken in
-      let plain = next .2 in
+      let same : mark turn ≡ l .start = c .before .before .if3 .left in
+      let q = c .before .before .before .if2 .taken in
       record {
         form = refl;
         held = refl;
-        no-quote = λ x. c .before .before .before .before .if1 .left (q ∙ sym x);
+        no-quote = λ x. c .before .before .before .before .before .if1 .left (q ∙ sym x);
         no-lf = l .inv .1 .no-lf;
         quote = ap (λ (j : ℕ). getD (a .file .now) j 0) (sym same) ∙ q;
         further = omega (arith, same);
-        inside = next .0;
-        plain = up-to (dialect (a .delimiter) (a .leniencies)) (a .file .now) (mark turn) (l .start) (next-mark turn) same plain;
+        inside = omega (arith, run-inside (c .before), c .if4 .left);
+        inner = up-to (a .file .now) (mark turn) (l .start) (c .before .inner-run .result) same (omega (arith, c .before .inner-run .ensures));
       }
 
 -- behind a quoted field
@@ -165,10 +165,10 @@ module _ (c : tie.After-pass-quoted Inv-loop2 μ-loop2 Inv-loop μ-loop) where
 
   closed :
       let l = turn asked .before .loop2 in
-      Closed (field-at (l .start) (l .n) (l .m) (l .r) (l .begun)) (mark (turn asked) + 1 + next-mark (turn asked)) (c .pass-quoted .result)
+      Closed (field-at (l .start) (l .n) (l .m) (l .r) (l .begun)) (inner-end asked) (c .pass-quoted .result)
   closed = rw (is-field asked) at (c .pass-quoted .ensures .1)
 
-  far : (c .pass-quoted .result .at ≡ turn asked .before .loop2 .start → ⊥) → let z = mark (turn asked) + 1 + next-mark (turn asked) in (z < c .pass-quoted .result .at) × (c .pass-quoted .result .at ≤ z + 3)
+  far : (c .pass-quoted .result .at ≡ turn asked .before .loop2 .start → ⊥) → let z = inner-end asked in (z < c .pass-quoted .result .at) × (c .pass-quoted .result .at ≤ z + 3)
   far x = closed .moved x
 
 abbrev written : tie.Else5 Inv-loop2 μ-loop2 Inv-loop μ-loop → tie.After-pass-quoted Inv-loop2 μ-loop2 Inv-loop μ-loop
@@ -284,26 +284,29 @@ same-length-3 c = same (c .before .before .before .before .before .before .befor
 returns : tie.Need-returns Inv-loop2 μ-loop2 Inv-loop μ-loop
 returns c = rw (c .before .before .before .before .before .field-start .ensures) (back (c .before .before .before .before .before .before .before))
 
-same-length-4 : tie.Need-same-length-4 Inv-loop2 μ-loop2 Inv-loop μ-loop
-same-length-4 c = same (c .before .before .before .before .before .before .before .before) .0
+add-inner-run : tie.Need-add-inner-run Inv-loop2 μ-loop2 Inv-loop μ-loop
+add-inner-run c = let z = stop (at-quote (c .before)) in omega (arith, z .near, z .inside, z .limit, z .from, z .few-bytes, z .few-ends)
 
-same-length-5 : tie.Need-same-length-5 Inv-loop2 μ-loop2 Inv-loop μ-loop
-same-length-5 c = same (c .before .before .before .before .before .before .before .before) .1
-
-same-length-6 : tie.Need-same-length-6 Inv-loop2 μ-loop2 Inv-loop μ-loop
-same-length-6 c = same (c .before .before .before .before .before .before .before .before) .2
-
-returns-2 : tie.Need-returns-2 Inv-loop2 μ-loop2 Inv-loop μ-loop
-returns-2 c = rw (c .before .before .before .before .before .before .field-start .ensures) (back (c .before .before .before .before .before .before .before .before))
+inner-run-requires : tie.Need-inner-run-requires Inv-loop2 μ-loop2 Inv-loop μ-loop
+inner-run-requires c κs = tt
 
 add-z : tie.Need-add-z Inv-loop2 μ-loop2 Inv-loop μ-loop
-add-z c = let q = next c in let z = stop (turn c) in omega (arith, z .near, z .inside, z .limit, z .from, z .few-bytes, z .few-ends, q .0, q .1)
-
-cast-z : tie.Need-cast-z Inv-loop2 μ-loop2 Inv-loop μ-loop
-cast-z c = let q = next c in let z = stop (turn c) in omega (arith, z .near, z .inside, z .limit, z .from, z .few-bytes, z .few-ends, q .0, q .1)
+add-z c = let z = stop (quote-turn c) in omega (arith, z .near, z .inside, z .limit, z .from, z .few-bytes, z .few-ends, run-inside c)
 
 add-z-2 : tie.Need-add-z-2 Inv-loop2 μ-loop2 Inv-loop μ-loop
-add-z-2 c = let q = next c in let z = stop (turn c) in omega (arith, z .near, z .inside, z .limit, z .from, z .few-bytes, z .few-ends, q .0, q .1)
+add-z-2 c = let z = stop (quote-turn c) in omega (arith, z .near, z .inside, z .limit, z .from, z .few-bytes, z .few-ends, run-inside c)
+
+same-length-4 : tie.Need-same-length-4 Inv-loop2 μ-loop2 Inv-loop μ-loop
+same-length-4 c = same (c .before .before .before .before .before .before .before .before .before) .0
+
+same-length-5 : tie.Need-same-length-5 Inv-loop2 μ-loop2 Inv-loop μ-loop
+same-length-5 c = same (c .before .before .before .before .before .before .before .before .before) .1
+
+same-length-6 : tie.Need-same-length-6 Inv-loop2 μ-loop2 Inv-loop μ-loop
+same-length-6 c = same (c .before .before .before .before .before .before .before .before .before) .2
+
+returns-2 : tie.Need-returns-2 Inv-loop2 μ-loop2 Inv-loop μ-loop
+returns-2 c = rw (c .before .before .before .before .before .before .before .field-start .ensures) (back (c .before .before .before .before .before .before .before .before .before))
 
 pass-quoted-requires : tie.Need-pass-quoted-requires Inv-loop2 μ-loop2 Inv-loop μ-loop
 pass-quoted-requires c κs =
@@ -342,55 +345,37 @@ returns-3 c =
     let h = from-field (is-field (asked q)) (q .pass-quoted .ensures .0) in
     along-along (whole l .along) h
 
-cast-w-2 : tie.Need-cast-w-2 Inv-loop2 μ-loop2 Inv-loop μ-loop
-cast-w-2 c = let q = next (c .before .before .before .before .before .before .before .before .before .before .before .before) in omega (arith, q .1)
+add-shifted : tie.Need-add-shifted Inv-loop2 μ-loop2 Inv-loop μ-loop
+add-shifted c = let z = stop (turn (asked (written c))) in omega (arith, z .near, z .inside, z .limit, z .from, z .few-bytes, z .few-ends)
 
-shr-w-2 : tie.Need-shr-w-2 Inv-loop2 μ-loop2 Inv-loop μ-loop
-shr-w-2 c = let q = next (c .before .before .before .before .before .before .before .before .before .before .before .before) in omega (arith, q .1)
-
-sub-w : tie.Need-sub-w Inv-loop2 μ-loop2 Inv-loop μ-loop
-sub-w c =
+sub-shifted : tie.Need-sub-shifted Inv-loop2 μ-loop2 Inv-loop μ-loop
+sub-shifted c =
     let q = written (c .before) in
     let f = far q (c .before .if5 .left) in
-    omega (arith, f .0, f .1)
+    omega (arith, f .0)
 
-cast-w-3 : tie.Need-cast-w-3 Inv-loop2 μ-loop2 Inv-loop μ-loop
-cast-w-3 c =
-    let q = written (c .before) in
-    let f = far q (c .before .if5 .left) in
-    omega (arith, f .0, f .1)
-
-cast-w-4 : tie.Need-cast-w-4 Inv-loop2 μ-loop2 Inv-loop μ-loop
-cast-w-4 c =
-    let q = written (c .before) in
-    let f = far q (c .before .if5 .left) in
-    omega (arith, f .0, f .1)
-
-shr-w-3 : tie.Need-shr-w-3 Inv-loop2 μ-loop2 Inv-loop μ-loop
-shr-w-3 c =
-    let q = written (c .before) in
-    let f = far q (c .before .if5 .left) in
-    omega (arith, f .0, f .1)
+shifted-requires : tie.Need-shifted-requires Inv-loop2 μ-loop2 Inv-loop μ-loop
+shifted-requires c κs = tt
 
 loop2-less-2 : tie.Need-loop2-less-2 Inv-loop2 μ-loop2 Inv-loop μ-loop
 loop2-less-2 c =
-    let q = written (c .before) in
-    let f = far q (c .before .if5 .left) in
+    let q = written (c .before .before) in
+    let f = far q (c .before .before .if5 .left) in
     omega (arith, f .0, q .pass-quoted .ensures .0 .inside)
 
 loop2-again-2 : tie.Need-loop2-again-2 Inv-loop2 μ-loop2 Inv-loop μ-loop
 loop2-again-2 c =
-    let q = written (c .before) in
+    let q = written (c .before .before) in
     let t = turn (asked q) in
     let l = t .before .loop2 in
     let v = l .inv in
-    let f = far q (c .before .if5 .left) in
+    let f = far q (c .before .before .if5 .left) in
     let h = from-field (is-field (asked q)) (q .pass-quoted .ensures .0) in
     let left = v .4 in
     let k = trailingZeros 64 (l .w) in (
       quoted-on (v .1) (v .0) h (closed q .form) (closed q .held),
       v .1,
-      marks-from (v .1) (t .before .before .before .block-end .result) (mark t + 1) (l .w / 2 ^ k / 2 ^ 1) (next-mark t) (q .pass-quoted .result .at) (behind-mark t) (omega (arith, f .0)),
+      c .shifted .ensures ∙ marks-from (v .1) (t .before .before .before .block-end .result) (mark t + 1) (l .w / 2 ^ k / 2 ^ 1) (q .pass-quoted .result .at) (behind-mark t) (omega (arith, f .0)),
       v .3,
       omega (arith, f .0),
     )
@@ -536,24 +521,22 @@ pass-fields-spec =
     same-length-2
     same-length-3
     returns
+    add-inner-run
+    inner-run-requires
+    add-z
+    add-z-2
     same-length-4
     same-length-5
     same-length-6
     returns-2
-    add-z
-    cast-z
-    add-z-2
     pass-quoted-requires
     same-length-7
     same-length-8
     same-length-9
     returns-3
-    cast-w-2
-    shr-w-2
-    sub-w
-    cast-w-3
-    cast-w-4
-    shr-w-3
+    add-shifted
+    sub-shifted
+    shifted-requires
     loop2-less-2
     loop2-again-2
     is-break-requires

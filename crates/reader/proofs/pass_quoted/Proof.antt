@@ -30,7 +30,7 @@ module _ (c : tie.After-shared-slice-known3) where
   content =
       let a = start c .args in
       let h = start c .pre .0 in
-      quoted-to (dialect (a .delimiter) (a .leniencies)) (h .no-quote) (a .file .now) (a .p .at) (a .z) (h .further) (h .inside) (h .quote) (c .before .before .before .if1 .left) (h .plain)
+      quoted-to (dialect (a .delimiter) (a .leniencies)) (h .no-quote) (a .file .now) (a .p .at) (a .z) (h .further) (h .inside) (h .quote) (c .before .before .before .if1 .left) (h .inner)
 
   more : let a = start c .args in a .z + 1 < length (a .file .now)
   more = omega (arith, start c .pre .0 .inside, c .before .before .if2 .left)
