@@ -445,7 +445,8 @@ impl Check {
     }
 
     // The state behind one more piece: a byte, then as many as can be passed at once, and so on. The last
-    // ones of a piece, which may be all of it, are taken one by one.
+    // ones of a piece, which may be all of it, are taken one by one. A pass gets the piece as a part of
+    // itself: lent on as it is, it would have to lie in memory, which costs a piece of one byte most.
     pub fn feed(self, piece: &[u8]) -> Check
         ensures { λ r. ⌜ Fed self (now (piece .entry)) r ⌝ }
     {
@@ -455,7 +456,7 @@ impl Check {
             c = c.taken(piece[i]);
             i += 1;
             if 32 <= piece.len() - i {
-                let r = c.passed(piece, i);
+                let r = c.passed(&piece[0..piece.len()], i);
                 c = r.check;
                 i = r.at;
             }

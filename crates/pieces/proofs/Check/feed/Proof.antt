@@ -3,7 +3,8 @@ use Prim.Native.Nat.{ℕ, _+_, _-_, _≤_, _<_}
 use mathlib.Core.Path.{_≡_, refl, _∙_, ap, sym}
 use mathlib.Core.List.{List}
 use native.Mathlib.Omega.{arith}
-use lib.ListN.{length, drop, getD, drop-of-length-le}
+use lib.ListN.{length, take, drop, getD, drop-of-length-le}
+use lib.Seq.{take-all}
 use Rattle.pieces.proofs.Quoted.{fed-at}
 use Rattle.pieces.proofs.Stands.{so-fed}
 use Rattle.pieces.specs.Check.{fed, fedAll}
@@ -19,6 +20,10 @@ module _ (c : Check) (l : List ℕ) (i : ℕ) where
   fed-none : length l ≤ i → fedAll c (drop i l) ≡ c
   unfolding fedAll
   fed-none h = rw (drop-of-length-le l h)
+
+-- a piece as a part of itself
+whole : (l : List ℕ) → take (length l - 0) l ≡ l
+whole l = take-all (length l - 0) l (omega arith)
 
 abbrev Inv-loop : tie.InvT-loop
 Inv-loop piece c₀ i₀ c i = (i ≤ length piece) × (fedAll c (drop i piece) ≡ fedAll c₀ piece)
@@ -41,19 +46,32 @@ add-i c = omega arith
 sub-if1 : tie.Need-sub-if1 Inv-loop μ-loop
 sub-if1 c = omega arith
 
+sub-passed : tie.Need-sub-passed Inv-loop μ-loop
+sub-passed c = omega arith
+
+part-passed-start : tie.Need-part-passed-start Inv-loop μ-loop
+part-passed-start c = omega arith
+
+part-passed-end : tie.Need-part-passed-end Inv-loop μ-loop
+part-passed-end c = omega arith
+
 passed-requires : tie.Need-passed-requires Inv-loop μ-loop
-passed-requires c κs = omega arith
+passed-requires c κs =
+    let l = c .before .before .before .before .before .loop in
+    rw (whole (c .before .before .before .before .before .before .before .args .piece .now)) (omega arith)
 
 loop-less : tie.Need-loop-less Inv-loop μ-loop
-loop-less c = omega (arith, c .before .passed .ensures .on, c .before .passed .ensures .within)
+loop-less c =
+    let q = rw (whole (c .before .before .before .before .before .before .before .before .before .args .piece .now)) at (c .before .passed .ensures) in
+    omega (arith, q .on, q .within)
 
 loop-again : tie.Need-loop-again Inv-loop μ-loop
 loop-again c =
-    let q = c .before .passed in
-    let d = c .before .before .before .taken in
-    let l = c .before .before .before .before .before .before .loop in
-    let piece = c .before .before .before .before .before .before .before .before .args .piece .now in
-    (q .ensures .within, q .ensures .same ∙ one-more (l .c) piece (l .i) (d .result) (omega arith) (d .ensures) ∙ l .inv .1)
+    let piece = c .before .before .before .before .before .before .before .before .before .args .piece .now in
+    let q = rw (whole piece) at (c .before .passed .ensures) in
+    let d = c .before .before .before .before .taken in
+    let l = c .before .before .before .before .before .before .before .loop in
+    (q .within, q .same ∙ one-more (l .c) piece (l .i) (d .result) (omega arith) (d .ensures) ∙ l .inv .1)
 
 loop-less-2 : tie.Need-loop-less-2 Inv-loop μ-loop
 loop-less-2 c = omega arith
@@ -79,6 +97,9 @@ feed-spec =
     taken-requires
     add-i
     sub-if1
+    sub-passed
+    part-passed-start
+    part-passed-end
     passed-requires
     loop-less
     loop-again
