@@ -184,6 +184,9 @@ record Between (c : Check) : Type 0 where
 between-step : (c : Check) → Between c → (b : ℕ) → isInner b ≡ true → fed c b ≡ jumped 3 (along 1 (c .here)) 1 c
 between-step c o b e = inner-step c b (o .refusal) (o .form) e ∙ ap (λ (p : Place). jumped 3 p 1 c) (moved-along b (c .here) (inner-no-lf b e))
 
+pub one-inner : (c : Check) (b : ℕ) → c .refusal ≡ 0 → c .form ≡ 3 → isInner b ≡ true → fed c b ≡ jumped 3 (along 1 (c .here)) 1 c
+one-inner c b r f e = between-step c (record { refusal = r; form = f }) b e
+
 between-keep : (c : Check) (p : Place) (m : ℕ) → Between c → Between (jumped 3 p m c)
 unfolding jumped placed entered
 between-keep c p m o = record { refusal = o .refusal; form = refl }

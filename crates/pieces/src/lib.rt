@@ -464,29 +464,40 @@ impl Check {
         c
     }
 
-    // One byte more, text outside quotes by a short way.
+    // One byte more, by a short way where it is one jump.
     fn taken(self, b: u8) -> Check
         ensures { λ r. ⌜ r ≡ fed self b ⌝ }
     {
-        if self.is_text(b) {
+        let k = self.jump_form(b);
+        if k != 0 {
             let here = self.here;
-            return self.jumped(2, along(1, here), 1);
+            return self.jumped(k, along(1, here), 1);
         }
         let t = steps::table();
         self.take(&t, b)
     }
 
-    // Whether b is plain text outside quotes.
-    fn is_text(self, b: u8) -> bool
-        ensures { λ r. ⌜ (r ≡ true → (self .refusal ≡ 0) × (self .form ≤ 2) × (isPlain (dialect (self .delimiter) (self .leniencies)) b ≡ true)) ⌝ }
+    // The form that b jumps to: as plain text outside quotes, or as content between them; 0 where it is
+    // neither.
+    fn jump_form(self, b: u8) -> u8
+        ensures { λ r. ⌜ ((r ≡ 0 → ⊥) → fed self b ≡ jumped r (along 1 (self .here)) 1 self) ⌝ }
     {
         if self.refusal != 0 {
-            return false;
+            return 0;
         }
-        if 2 < self.form {
-            return false;
+        if self.form == 3 {
+            if runs::is_inner(b) {
+                return 3;
+            }
+            return 0;
         }
-        runs::is_plain(self.delimiter, self.leniencies, b)
+        if 3 < self.form {
+            return 0;
+        }
+        if runs::is_plain(self.delimiter, self.leniencies, b) {
+            return 2;
+        }
+        0
     }
 
     // Passes the bytes from a place on that are one jump, none of them where there are none.

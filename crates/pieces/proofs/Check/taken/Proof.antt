@@ -1,12 +1,11 @@
 -- `pieces::Check::taken` meets its contract.
 use mathlib.Core.Path.{sym}
-use Rattle.pieces.proofs.Jumps.{one-text}
 use borrow.Author.Needs.{needs}
 use Rattle.pieces.proofs.Check.taken.Statement.{statement}
 use Rattle.pieces.proofs.Check.taken.Tie as tie
 
-is-text-requires : tie.Need-is-text-requires
-is-text-requires c κs = search needs
+jump-form-requires : tie.Need-jump-form-requires
+jump-form-requires c κs = search needs
 
 along-requires : tie.Need-along-requires
 along-requires c κs = search needs
@@ -15,10 +14,7 @@ jumped-requires : tie.Need-jumped-requires
 jumped-requires c κs = search needs
 
 returns : tie.Need-returns
-returns c =
-    let a = c .before .before .before .before .before .args in
-    let t = c .before .before .before .before .is-text .ensures (c .before .before .before .if1 .taken) in
-    rw (c .jumped .ensures, c .before .along .ensures) (sym (one-text (a .self) (a .b) (t .0) (t .1) (t .2)))
+returns c = rw (c .jumped .ensures, c .before .along .ensures) (sym (c .before .before .before .before .jump-form .ensures (c .before .before .before .if1 .taken)))
 
 table-requires : tie.Need-table-requires
 table-requires c κs = search needs
@@ -33,7 +29,7 @@ pub taken-spec : {M : Type 1} → statement M
 taken-spec =
     tie.close
     (tie.spec
-    is-text-requires
+    jump-form-requires
     along-requires
     jumped-requires
     returns
