@@ -30,14 +30,17 @@ struct Times {
 
 /// The bars: an input, two jobs, and the most that the ratio of their times should be. The first is the
 /// ordinary check's own: the ratios to it count only if it is at least half as fast as csv-core.
-const BARS: [(&str, usize, usize, f64); 8] = [
+const BARS: [(&str, usize, usize, f64); 11] = [
     (inputs::SHORT, ORDINARY, CSV_CORE, 2.0),
     (inputs::SHORT, CHECK, ORDINARY, 0.65),
     (inputs::REMARKS, CHECK, ORDINARY, 0.75),
+    (inputs::BROKEN, CHECK, ORDINARY, 0.75),
     (inputs::QUOTES, CHECK, ORDINARY, 0.5),
     (inputs::LINES, CHECK, ORDINARY, 0.6),
     (inputs::SHORT, READ, CSV_CORE, 1.7),
+    (inputs::QUOTED, READ, CSV_CORE, 1.7),
     (inputs::REMARKS, READ, CSV_CORE, 1.7),
+    (inputs::BROKEN, READ, CSV_CORE, 1.7),
     (inputs::LINES, READ, CSV_CORE, 1.7),
 ];
 
