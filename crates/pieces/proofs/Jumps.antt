@@ -18,7 +18,7 @@ use Rattle.steps.specs.Steps.{Form, start, lead, bare, quoted, shut, tail, cr, 
 use Rattle.steps.specs.Numbers.{formNumber, classNumber, coded, stepTable, stepBy}
 use Rattle.steps.proofs.Rules.{step-is}
 use Rattle.runs.specs.Runs.{run, isText, isPlain, isInner, pairs}
-use Rattle.runs.proofs.Runs.{run-le, pairs-le}
+use Rattle.runs.proofs.Runs.{run-le}
 use Rattle.runs.proofs.Bytes.{isInside, plain-class, plain-narrow, plain-no-lf, inner-inside, inner-narrow, inner-no-lf}
 use Rattle.format.proofs.Classes.{quote-beside}
 use Rattle.pieces.specs.declared.Check.{Check}
@@ -288,9 +288,6 @@ module _ (c : Check) (s : Bytes) (i k : ℕ) (inside : i ≤ length s) where
   pub text-within : (P : ℕ → Bool) → k ≡ run P (drop i s) → i + k ≤ length s
   text-within P e = omega (arith, run-le P (drop i s), length-drop i s)
 
-  pub pairs-within : k ≡ pairs (drop i s) → i + (k + k) ≤ length s
-  pairs-within e = omega (arith, pairs-le (drop i s), length-drop i s)
-
   module _ (some : k ≡ 0 → ⊥) (r : c .refusal ≡ 0) where
     more-than-none : 0 < k
     more-than-none = omega arith
@@ -304,10 +301,3 @@ module _ (c : Check) (s : Bytes) (i k : ℕ) (inside : i ≤ length s) where
           within = text-within _ e;
           same = text-leap s i k c more-than-none r f (omega arith);
         }
-
-pub leads-none : (c : Check) (s : Bytes) (i : ℕ) → i ≤ length s → Leads c s i (record { at = i; check = c })
-leads-none c s i h = record { on = omega arith; within = h; same = refl }
-
--- one after the other
-pub leads-on : (c : Check) (s : Bytes) (i : ℕ) (q r : Reached) → Leads c s i q → Leads (q .check) s (q .at) r → Leads c s i r
-leads-on c s i q r g h = record { on = omega (arith, g .on, h .on); within = h .within; same = h .same ∙ g .same }

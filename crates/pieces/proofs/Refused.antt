@@ -22,6 +22,14 @@ use Rattle.pieces.proofs.Quoted.{spot-along, spot-line, spot-none}
 tail : ℕ → Bytes → ℕ
 tail t g = cond (eqb (lineFeeds g) 0) (t + length g) (length (sinceLf g))
 
+since : (g : Bytes) → tail 0 g ≡ length (sinceLf g)
+unfolding tail
+since g = go (eqb (lineFeeds g) 0) refl
+  where
+    go : (y : Bool) → eqb (lineFeeds g) 0 ≡ y → cond y (0 + length g) (length (sinceLf g)) ≡ length (sinceLf g)
+    go true q = rw (since-none g (eqb-true (lineFeeds g) 0 q)) (omega arith)
+    go false q = refl
+
 module _ (c : Check) (h : c .refusal ≡ 0 → ⊥) where
   one : (p : Place) (b : ℕ) → fed (placed p c) b ≡ placed (moved b p) c
   unfolding fed placed
@@ -32,11 +40,7 @@ module _ (c : Check) (h : c .refusal ≡ 0 → ⊥) where
   unfolding tail
   tail-lf t b g e =
       let some : eqb (lineFeeds (b ∷ g)) 0 ≡ false = ne-eqb (lineFeeds (b ∷ g)) 0 (λ q. omega (arith, feeds-lf b g e)) in
-      go (eqb (lineFeeds g) 0) refl ∙ rw (some, since-on b g some)
-    where
-      go : (y : Bool) → eqb (lineFeeds g) 0 ≡ y → cond y (0 + length g) (length (sinceLf g)) ≡ length (sinceLf g)
-      go true q = rw (since-none g (eqb-true (lineFeeds g) 0 q)) (omega arith)
-      go false q = refl
+      since g ∙ rw (some, since-on b g some)
 
   tail-other : (t b : ℕ) (g : Bytes) → eqb b 0x0A ≡ false → tail (t + 1) g ≡ tail t (b ∷ g)
   unfolding tail
@@ -76,14 +80,6 @@ module _ (c : Check) (h : c .refusal ≡ 0 → ⊥) where
     itself : placed (spot 0 0 0 (c .here)) c ≡ c
     unfolding placed
     itself = rw (spot-none (c .here) line column byte)
-
-    since : (g : Bytes) → tail 0 g ≡ length (sinceLf g)
-    unfolding tail
-    since g = go (eqb (lineFeeds g) 0) refl
-      where
-        go : (y : Bool) → eqb (lineFeeds g) 0 ≡ y → cond y (0 + length g) (length (sinceLf g)) ≡ length (sinceLf g)
-        go true q = rw (since-none g (eqb-true (lineFeeds g) 0 q)) (omega arith)
-        go false q = refl
 
     whole : (g : Bytes) → fedAll c g ≡ placed (spot (lineFeeds g) (length (sinceLf g)) (length g) (c .here)) c
     whole g =

@@ -2,11 +2,11 @@
 use Prim.Native.Nat.{ℕ, zero, suc, _+_, _-_, _≤_, _<_}
 use native.Mathlib.Numerals.{add-one}
 use native.Mathlib.Omega.{arith}
-use mathlib.Core.Path.{_≡_, refl, ap, _∙_}
+use mathlib.Core.Path.{_≡_, refl, sym, ap, _∙_}
 use mathlib.Core.Bool.{Bool, true, false, cond, _&&_, false≢true}
 use mathlib.Core.List.{List, _∷_}
 use lib.Dec.{eqb}
-use borrow.Author.Tests.{eqb-true}
+use borrow.Author.Tests.{eqb-true, eqb-false}
 use lib.ListN.{length, getD, set, take, drop, replicate, length-drop, length-set}
 use lib.Seq.{sets, length-sets, drop-cons}
 use Rattle.format.specs.Table.{Bytes}
@@ -21,7 +21,7 @@ use Rattle.reader.specs.declared.Head.{Head}
 use Rattle.reader.specs.Fill.{textLeft, endsLeft, rowsLeft}
 use Rattle.reader.specs.Walk.{textAhead, endsAhead, rowsAhead, Ready, Along, NoQuote, Roomy, Inside, between}
 use Rattle.reader.proofs.Copy.{run-first, two-at}
-use Rattle.format.proofs.Classes.{quote-beside}
+use Rattle.format.proofs.Classes.{delimiter-at, quote-beside, LF-beside}
 
 -- a byte that is content between quotes in every dialect
 abbrev pub Puts : ℕ → Type 0
@@ -41,12 +41,12 @@ puts-inner b e d = by (classOf d b) (inner-inside d b e)
     by forbidden i = absurd (false≢true i)
 
 pub puts-LF : (b : ℕ) → b ≡ 0x0A → Puts b
-unfolding stepOf classOf
-puts-LF b e d = rw e (by (eqb 0x0A (d .delimiterByte)))
+unfolding stepOf
+puts-LF b e d = rw e (by (eqb 0x0A (d .delimiterByte)) refl)
   where
-    by : (x : Bool) → stepOf (d .allows lf) quoted (cond x delimiter LF) ≡ go quoted put
-    by true = refl
-    by false = refl
+    by : (x : Bool) → eqb 0x0A (d .delimiterByte) ≡ x → stepOf (d .allows lf) quoted (classOf d 0x0A) ≡ go quoted put
+    by true q = rw (delimiter-at d 0x0A (eqb-true 0x0A (d .delimiterByte) q))
+    by false q = rw (LF-beside d (λ y. eqb-false 0x0A (d .delimiterByte) q (sym y)))
 
 -- one such byte at i
 module _ (d : Dialect) (f : Bytes) (i : ℕ) (v : i < length f) (e : Puts (getD f i 0)) where

@@ -9,8 +9,8 @@ use lib.ListN.{length, getD, take, drop, drop-of-length-le, length-drop, take-ap
 use lib.Seq.{drop-cons, drop-drop}
 use borrow.Author.Tests.{ne-eqb}
 use Rattle.format.specs.Table.{Bytes}
-use Rattle.format.specs.Place.{lineFeeds, sinceLf, behind}
-use Rattle.format.proofs.Places.{lineFeeds-append, sinceLf-append, place-behind, place-within}
+use Rattle.format.specs.Place.{lineFeeds, sinceLf}
+use Rattle.format.proofs.Places.{lineFeeds-append, sinceLf-append, since-none}
 use Rattle.runs.specs.Words.{bit}
 
 pub feeds-more : (s : Bytes) (i : ℕ) → i < length s → lineFeeds (drop i s) ≡ bit (eqb (getD s i 0) 0x0A) + lineFeeds (drop (i + 1) s)
@@ -21,18 +21,10 @@ pub feeds-none : (s : Bytes) (i : ℕ) → length s ≤ i → lineFeeds (drop i 
 unfolding lineFeeds
 feeds-none s i h = rw (drop-of-length-le s h)
 
-pub since-le : (f : Bytes) → length (sinceLf f) ≤ length f
-unfolding behind
-since-le f = omega (arith, rw (place-behind f []) at (place-within f [] .column))
-
--- bytes without an LF, and such bytes behind an LF
-since-all : (f : Bytes) → lineFeeds f ≡ 0 → sinceLf f ≡ f
-unfolding sinceLf
-since-all f e = sinceLf-append [] f ∙ rw e
-
+-- such bytes behind an LF
 since-behind : (a f : Bytes) → lineFeeds f ≡ 0 → sinceLf (a ++ (0x0A ∷ f)) ≡ f
 unfolding lineFeeds sinceLf
-since-behind a f e = sinceLf-append a (0x0A ∷ f) ∙ rw e (since-all f e)
+since-behind a f e = sinceLf-append a (0x0A ∷ f) ∙ rw e (since-none f e)
 
 parted : (s : Bytes) (a b : ℕ) → a ≤ b → drop a s ≡ take (b - a) (drop a s) ++ drop b s
 parted s a b h =
@@ -63,4 +55,4 @@ module _ (s : Bytes) (from i : ℕ) (h : NoLf s from i) where
   no-lf-end l =
       let sum = lineFeeds-append (take (from - i) (drop i s)) (drop from s) in
       let none : lineFeeds (drop from s) ≡ 0 = omega (arith, sum, ap lineFeeds (parted s i from l), h .2) in
-      omega (arith, ap length (since-all (drop from s) none), length-drop from s)
+      omega (arith, ap length (since-none (drop from s) none), length-drop from s)
