@@ -4,7 +4,7 @@ use native.Mathlib.Numerals.{add-one}
 use native.Mathlib.Omega.{arith}
 use mathlib.Core.Path.{_≡_, refl, sym, ap, _∙_}
 use mathlib.Core.Bool.{Bool, true, false, cond, not, _&&_, _||_, and-false, false≢true}
-use mathlib.Core.List.{[], _∷_}
+use mathlib.Core.List.{[], _∷_, _++_}
 use mathlib.Core.Logic.{_⊎_, inl, inr}
 use lib.Seq.{drop-drop}
 use lib.Dec.{eqb, leb}
@@ -25,6 +25,12 @@ use Rattle.pieces.specs.declared.Check.{Check}
 use Rattle.pieces.specs.declared.Reached.{Reached}
 use Rattle.pieces.specs.Walk.{Leads}
 use Rattle.pieces.specs.Check.{counterLimit, plus, moved, stopped, entered, placed, noting, onlyWide, noted, grown, stepped, fed, fedAll, along, jumped}
+
+-- feeding two pieces is feeding their join, wherever the cut falls
+pub fed-join : (c : Check) (f g : Bytes) → fedAll c (f ++ g) ≡ fedAll (fedAll c f) g
+unfolding fedAll
+fed-join c [] g = refl
+fed-join c (b ∷ f) g = fed-join (fed c b) f g
 
 -- a byte that is no LF moves the place along
 pub moved-along : (b : ℕ) (p : Place) → eqb b 0x0A ≡ false → moved b p ≡ along 1 p
@@ -104,13 +110,17 @@ pub shut-step : (c : Check) → c .refusal ≡ 0 → c .form ≡ 3 → (c .delim
 unfolding stepOf stepped moved
 shut-step c r f d = rw (fed-is c 0x22 quoted quote r f (quote-beside (dialect (c .delimiter) (c .leniencies)) d), noted-none 0x22 c refl)
 
+second-step : (c : Check) → c .refusal ≡ 0 → c .form ≡ 4 → (c .delimiter ≡ 0x22 → ⊥) → fed c 0x22 ≡ jumped 3 (along 1 (c .here)) 1 c
+unfolding stepOf stepped jumped moved
+second-step c r f d = rw (fed-is c 0x22 shut quote r f (quote-beside (dialect (c .delimiter) (c .leniencies)) d), noted-none 0x22 c refl)
+
 pair-step : (c : Check) → c .refusal ≡ 0 → c .form ≡ 3 → (c .delimiter ≡ 0x22 → ⊥) → fed (fed c 0x22) 0x22 ≡ jumped 3 (along 2 (c .here)) 1 c
-unfolding stepOf stepped jumped entered placed moved
+unfolding jumped entered placed
 pair-step c r f d =
     let e = placed (along 1 (c .here)) (entered 4 (c .mark) (c .used) (c .field) c) in
     let p : plus (plus (c .here .column .0) 1) 1 ≡ plus (c .here .column .0) 2 = omega arith in
     let q : plus (plus (c .here .byte .0) 1) 1 ≡ plus (c .here .byte .0) 2 = omega arith in
-    rw (shut-step c r f d, fed-is e 0x22 shut quote r refl (quote-beside (dialect (c .delimiter) (c .leniencies)) d), noted-none 0x22 e refl, p, q)
+    rw (shut-step c r f d, second-step e r refl d, p, q)
 
 -- a run of bytes of which each is one jump is one jump
 module _
@@ -190,6 +200,20 @@ one-inner c b r f e = between-step c (record { refusal = r; form = f }) b e
 between-keep : (c : Check) (p : Place) (m : ℕ) → Between c → Between (jumped 3 p m c)
 unfolding jumped placed entered
 between-keep c p m o = record { refusal = o .refusal; form = refl }
+
+-- a quote that may close the field, and the second of a pair, whatever number stands for it
+pub one-shut :
+    (c : Check) (b : ℕ) → c .refusal ≡ 0 → c .form ≡ 3 → b ≡ 0x22 → (c .delimiter ≡ 0x22 → ⊥)
+    → fed c b ≡ placed (along 1 (c .here)) (entered 4 (c .mark) (c .used) (c .field) c)
+one-shut c b r f e d = rw e (shut-step c r f d)
+
+pub one-second : (c : Check) (b : ℕ) → c .refusal ≡ 0 → c .form ≡ 4 → b ≡ 0x22 → (c .delimiter ≡ 0x22 → ⊥) → fed c b ≡ jumped 3 (along 1 (c .here)) 1 c
+one-second c b r f e d = rw e (second-step c r f d)
+
+-- behind a refusal a byte only moves the place
+pub refused-step : (c : Check) (b : ℕ) → (c .refusal ≡ 0 → ⊥) → fed c b ≡ placed (moved b (c .here)) c
+unfolding fed
+refused-step c b r = rw (ne-eqb _ _ r)
 
 -- the same from a place in a piece
 module _ (s : Bytes) (i k : ℕ) (c : Check) (some : 0 < k) where

@@ -6,8 +6,8 @@ use mathlib.Core.Path.{_≡_, refl, sym, ap, _∙_}
 use mathlib.Core.Bool.{Bool, true, false, cond}
 use mathlib.Core.List.{List, [], _∷_}
 use lib.Dec.{eqb, leb}
-use lib.ListN.{length, getD, take, drop, length-drop}
-use lib.Seq.{drop-cons, drop-drop}
+use lib.ListN.{length, getD, take, drop, length-take, length-drop, take-append-drop}
+use lib.Seq.{drop-cons, drop-drop, drop-append-le}
 use borrow.Author.Tests.{eqb-true, eqb-false, eq-eqb, ne-eqb}
 use Rattle.format.specs.declared.Place.{Place}
 use Rattle.format.specs.Table.{Bytes}
@@ -24,7 +24,7 @@ use Rattle.pieces.specs.declared.Check.{Check}
 use Rattle.pieces.specs.Check.{counterLimit, plus, moved, entered, placed, stepped, fed, fedAll, along, spot, jumped}
 use Rattle.pieces.specs.declared.Inside.{Inside}
 use Rattle.pieces.specs.Walk.{Settled, Between, runOn, Further}
-use Rattle.pieces.proofs.Jumps.{plus-is, plus-plus, fed-is, noted-none, jump-jump, inner-leap, pairs-leap}
+use Rattle.pieces.proofs.Jumps.{fed-join, plus-is, plus-plus, fed-is, noted-none, jump-jump, inner-leap, pairs-leap}
 
 pub spot-along : (k l t n : ℕ) (p : Place) → along k (spot l t n p) ≡ spot l (t + k) (n + k) p
 unfolding spot
@@ -177,6 +177,30 @@ module _ (c : Check) (f : Bytes) (at i l t m : ℕ) (h : Settled c) (on : at ≤
 pub between-start : (s : Bytes) (at : ℕ) → at ≤ length s → Between s at (record { end = at; content = 0; lines = 0; tail = 0 })
 between-start s at h =
     record { on = omega arith; within = h; content = omega arith; lines = omega arith; tail = omega arith; flat = λ e. omega arith; same = λ c q. inner-start c s at q }
+
+-- such bytes of a part are such bytes of the whole
+module _ (s : Bytes) (n at : ℕ) (r : Inside) (g : Between (take n s) at r) where
+  further-in : (c : Check) (i : ℕ) → i ≤ length (take n s) → fedAll c (drop i s) ≡ fedAll (fedAll c (drop i (take n s))) (drop n s)
+  further-in c i h =
+      ap (λ (f : Bytes). fedAll c (drop i f)) (sym (take-append-drop n s))
+      ∙ ap (fedAll c) (drop-append-le i (take n s) (drop n s) h)
+      ∙ fed-join c (drop i (take n s)) (drop n s)
+
+  pub between-part : Between s at r
+  between-part =
+      record {
+        on = g .on;
+        within = omega (arith, g .within, length-take n s);
+        content = g .content;
+        lines = g .lines;
+        tail = g .tail;
+        flat = g .flat;
+        same =
+            λ c h.
+            further-in (jumped 3 (spot (r .lines) (r .tail) (r .end - at) (c .here)) (r .content) c) (r .end) (g .within)
+            ∙ ap (λ (x : Check). fedAll x (drop n s)) (g .same c h)
+            ∙ sym (further-in c at (omega (arith, g .on, g .within)));
+      }
 
 module _ (s : Bytes) (at : ℕ) (x : Inside) (g : Between s at x) where
   pub between-run : (k : ℕ) → k ≤ run isInner (drop (x .end) s) → Between s at (runOn x k)

@@ -15,7 +15,7 @@ use Rattle.format.proofs.Places.{feeds-lf, feeds-other, since-none, since-on}
 use Rattle.pieces.specs.declared.Check.{Check}
 use Rattle.pieces.specs.Check.{counterLimit, moved, placed, fed, fedAll, along, spot}
 use Rattle.pieces.specs.Walk.{Leads}
-use Rattle.pieces.proofs.Jumps.{moved-along}
+use Rattle.pieces.proofs.Jumps.{moved-along, refused-step}
 use Rattle.pieces.proofs.Quoted.{spot-along, spot-line, spot-none}
 
 -- the bytes behind the last line feed of t bytes and then g
@@ -32,8 +32,8 @@ since g = go (eqb (lineFeeds g) 0) refl
 
 module _ (c : Check) (h : c .refusal ≡ 0 → ⊥) where
   one : (p : Place) (b : ℕ) → fed (placed p c) b ≡ placed (moved b p) c
-  unfolding fed placed
-  one p b = rw (ne-eqb (c .refusal) 0 h)
+  unfolding placed
+  one p b = refused-step (placed p c) b h
 
   -- a line feed begins the tail anew, and another byte is one more of it
   tail-lf : (t b : ℕ) (g : Bytes) → eqb b 0x0A ≡ true → tail 0 g ≡ tail t (b ∷ g)

@@ -29,6 +29,7 @@ use Rattle.pieces.specs.declared.Check.{Check}
 use Rattle.pieces.specs.Check.{counterLimit, plus, moved, started, stopped, entered, opened, placed, fieldEnded, evenly, recordEnded, stepped, fed, fedAll, bitIf, asked}
 use Rattle.pieces.specs.Answers.{totalsOf, Answers, accepted, refused, Stands, Started, Fed, Asked}
 use Rattle.steps.proofs.Tallies.{Sums, Flags, goes, tallied, Some, some-judge, tallies}
+use Rattle.pieces.proofs.Jumps.{fed-join}
 use Rattle.pieces.proofs.Ahead.{num, going, inner, answer, orFresh, ahead}
 
 -- the dialect bytes stay
@@ -189,12 +190,6 @@ module _ (b sum : ℕ) where
   -- a check that has started stands for the dialect and no bytes
   pub started-stands : Stands b sum [] (started b sum)
   started-stands g = rw (asked-is g) (holds-answers b sum g (model b sum g) (model-holds b sum g))
-
--- feeding two pieces is feeding their join, wherever the cut falls
-pub fed-join : (c : Check) (f g : Bytes) → fedAll c (f ++ g) ≡ fedAll (fedAll c f) g
-unfolding fedAll
-fed-join c [] g = refl
-fed-join c (b ∷ f) g = fed-join (fed c b) f g
 
 pub fed-stands : (b sum : ℕ) (f piece : Bytes) (c : Check) → Stands b sum f c → Stands b sum (f ++ piece) (fedAll c piece)
 fed-stands b sum f piece c h g = rw (append-assoc f piece g, ← fed-join c piece g) (h (piece ++ g))

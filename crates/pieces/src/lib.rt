@@ -230,6 +230,27 @@ fn stop_on(x: Inside, s: &[u8]) -> Inside
     }
 }
 
+// The same, no further than the content of one field can go: what is longer is refused, however it ends.
+fn inside_field(t: &[bool; 256], s: &[u8], at: usize) -> Inside
+    requires { ⌜ at ≤ length (now s) ⌝ }
+    requires { ⌜ Marks (now t) isInner ⌝ }
+    ensures { λ r. ⌜ Between (now (s .entry)) at r ⌝ }
+{
+    inside_from(t, &s[0..reach(s, at)], at)
+}
+
+// How far content from a place on can go, each byte of it a pair.
+fn reach(s: &[u8], at: usize) -> usize
+    requires { ⌜ at ≤ length (now s) ⌝ }
+    ensures { λ r. ⌜ (at ≤ r) × (r ≤ length (now (s .entry))) ⌝ }
+{
+    let most = 2 * (format::CONTENT_LIMIT as usize);
+    if s.len() - at <= most {
+        return s.len();
+    }
+    at + most
+}
+
 // Where the line begins on which such bytes end, if that on which they begin does so at a place.
 fn last_line(line: usize, q: Inside) -> usize
     requires { ⌜ q .tail ≤ q .end ⌝ }
@@ -444,7 +465,7 @@ impl Check {
         }
     }
 
-    // The state behind one more piece: a byte, then as many as can be passed at once, and so on. The last
+    // The state behind one more piece: as many bytes as can be passed at once, then one, and so on. The last
     // ones of a piece, which may be all of it, are taken one by one. A pass gets the piece as a part of
     // itself: lent on as it is, it would have to lie in memory, which costs a piece of one byte most.
     pub fn feed(self, piece: &[u8]) -> Check
@@ -453,38 +474,46 @@ impl Check {
         let mut c = self;
         let mut i = 0;
         while i < piece.len() {
-            c = c.taken(piece[i]);
-            i += 1;
-            if 32 <= piece.len() - i {
+            if 48 <= piece.len() - i {
                 let r = c.passed(&piece[0..piece.len()], i);
                 c = r.check;
                 i = r.at;
+            }
+            if i < piece.len() {
+                c = c.taken(piece[i]);
+                i += 1;
             }
         }
         c
     }
 
-    // One byte more, by a short way where it is one jump.
+    // One byte more: behind a refusal it is only counted, and what is one jump, or may close the quotes,
+    // takes a short way.
     fn taken(self, b: u8) -> Check
         ensures { λ r. ⌜ r ≡ fed self b ⌝ }
     {
+        let here = self.here;
+        if self.refusal != 0 {
+            let next = moved(b, here);
+            return self.placed(next);
+        }
         let k = self.jump_form(b);
         if k != 0 {
-            let here = self.here;
             return self.jumped(k, along(1, here), 1);
+        }
+        if self.is_quote(3, b) {
+            return self.shut();
         }
         let t = steps::table();
         self.take(&t, b)
     }
 
-    // The form that b jumps to: as plain text outside quotes, or as content between them; 0 where it is
-    // neither.
+    // The form that b jumps to: as plain text outside quotes, or as content between them, which the second
+    // quote of a pair is; 0 where it is neither.
     fn jump_form(self, b: u8) -> u8
+        requires { ⌜ self .refusal ≡ 0 ⌝ }
         ensures { λ r. ⌜ ((r ≡ 0 → ⊥) → fed self b ≡ jumped r (along 1 (self .here)) 1 self) ⌝ }
     {
-        if self.refusal != 0 {
-            return 0;
-        }
         if self.form == 3 {
             if runs::is_inner(b) {
                 return 3;
@@ -492,12 +521,39 @@ impl Check {
             return 0;
         }
         if 3 < self.form {
+            if self.is_quote(4, b) {
+                return 3;
+            }
             return 0;
         }
         if runs::is_plain(self.delimiter, self.leniencies, b) {
             return 2;
         }
         0
+    }
+
+    // Whether b is a quote, not the delimiter, in form k.
+    fn is_quote(self, k: u8, b: u8) -> bool
+        ensures { λ r. ⌜ (r ≡ true → (self .form ≡ k) × (b ≡ 0x22) × (self .delimiter ≡ 0x22 → ⊥)) ⌝ }
+    {
+        if self.form != k {
+            return false;
+        }
+        if self.delimiter == 0x22 {
+            return false;
+        }
+        b == 0x22
+    }
+
+    // The state behind a quote that may close the field, or be the first of a pair.
+    fn shut(self) -> Check
+        ensures { λ r. ⌜ r ≡ placed (along 1 (self .here)) (entered 4 (self .mark) (self .used) (self .field) self) ⌝ }
+    {
+        let here = self.here;
+        let mark = self.mark;
+        let used = self.used;
+        let field = self.field;
+        self.entered(4, mark, used, field).placed(along(1, here))
     }
 
     // Passes the bytes from a place on that are one jump, none of them where there are none.
@@ -739,7 +795,7 @@ impl Check {
         if p != x.start {
             return x;
         }
-        let q = inside_from(inner, s, p + 1);
+        let q = inside_field(inner, s, p + 1);
         let z = q.end;
         if (format::CONTENT_LIMIT as usize) < q.content {
             return x;
@@ -851,16 +907,14 @@ impl Check {
         self.record_ended(used, here, here, false).settled()
     }
 
-    // One byte more: behind a refusal it is only counted.
+    // One byte more where nothing is refused yet: by its class, and the table of steps.
     fn take(self, t: &[[u8; 7]; 7], b: u8) -> Check
         requires { ⌜ now t ≡ stepTable ⌝ }
+        requires { ⌜ self .refusal ≡ 0 ⌝ }
         ensures { λ r. ⌜ r ≡ fed self b ⌝ }
     {
         let here = self.here;
         let next = moved(b, here);
-        if self.refusal != 0 {
-            return self.placed(next);
-        }
         let lf = self.leniencies % 2 == 1;
         let class = steps::class_of(self.delimiter, self.leniencies, b);
         let s = steps::step(t, lf, self.form, class);

@@ -78,29 +78,29 @@ module _ (t : List Bool) where
       shift u p v c = let e : u * (p * 2) ≡ u * p * 2 = sym (mul-assoc u p 2) in omega (arith, e)
 
   -- a part of a piece, from its end
-  module _ (s : Bytes) (at i w : ℕ) (room : at + 16 ≤ length s) (h : 0 < i) (l : i ≤ 16) (e : w ≡ word t (drop i (take 16 (drop at s)))) where
+  module _ (n : ℕ) (s : Bytes) (at i w : ℕ) (room : at + n ≤ length s) (h : 0 < i) (l : i ≤ n) (e : w ≡ word t (drop i (take n (drop at s)))) where
     part : Bytes
-    part = take 16 (drop at s)
+    part = take n (drop at s)
 
-    part-length : length part ≡ 16
+    part-length : length part ≡ n
     unfolding part
-    part-length = length-take-le 16 (drop at s) (rw (length-drop at s) (omega arith))
+    part-length = length-take-le n (drop at s) (rw (length-drop at s) (omega arith))
 
-    pub part-room : w < 2 ^ 16
+    pub part-room : w < 2 ^ n
     unfolding part
-    part-room = rw e (word-below (drop i (take 16 (drop at s))) 16 (rw (length-drop i (take 16 (drop at s)), part-length) (omega arith)))
+    part-room = rw e (word-below (drop i (take n (drop at s))) n (rw (length-drop i (take n (drop at s)), part-length) (omega arith)))
 
-    pub part-more : w * 2 + bit (getD t (getD s (at + (i - 1)) 0) false) ≡ word t (drop (i - 1) (take 16 (drop at s)))
+    pub part-more : w * 2 + bit (getD t (getD s (at + (i - 1)) 0) false) ≡ word t (drop (i - 1) (take n (drop at s)))
     unfolding part
     part-more =
         let one : i - 1 + 1 ≡ i = omega arith in
-        let q : getD (take 16 (drop at s)) (i - 1) 0 ≡ getD s (at + (i - 1)) 0 = getD-take 16 (drop at s) (i - 1) 0 (omega arith) ∙ getD-drop at s (i - 1) 0 in
-        sym (word-at (take 16 (drop at s)) (i - 1) (omega (arith, part-length)) ∙ rw (one, q, sym e))
+        let q : getD (take n (drop at s)) (i - 1) 0 ≡ getD s (at + (i - 1)) 0 = getD-take n (drop at s) (i - 1) 0 (omega arith) ∙ getD-drop at s (i - 1) 0 in
+        sym (word-at (take n (drop at s)) (i - 1) (omega (arith, part-length)) ∙ rw (one, q, sym e))
 
-  pub part-none : (s : Bytes) (at : ℕ) → at + 16 ≤ length s → 0 ≡ word t (drop 16 (take 16 (drop at s)))
-  part-none s at room =
-      let e : length (take 16 (drop at s)) ≡ 16 = length-take-le 16 (drop at s) (rw (length-drop at s) (omega arith)) in
-      rw e at (word-none (take 16 (drop at s)))
+  pub part-none : (n : ℕ) (s : Bytes) (at : ℕ) → at + n ≤ length s → 0 ≡ word t (drop n (take n (drop at s)))
+  part-none n s at room =
+      let e : length (take n (drop at s)) ≡ n = length-take-le n (drop at s) (rw (length-drop at s) (omega arith)) in
+      rw e at (word-none (take n (drop at s)))
 
   -- two parts beside each other
   pub part-join :

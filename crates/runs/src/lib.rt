@@ -159,13 +159,14 @@ pub fn pair_run(s: &[u8], from: usize) -> usize
     pairs_on(s, i, n)
 }
 
-// The word of 16 bytes by a table of marks, the first byte lowest.
-fn marks(t: &[bool; 256], s: &[u8], at: usize) -> u64
-    requires { ⌜ at + 16 ≤ length (now s) ⌝ }
-    ensures { λ r. ⌜ r ≡ word (now (t .entry)) (take 16 (drop at (now (s .entry)))) ⌝ }
+// The word of 4 bytes by a table of marks, the first byte lowest: a short chain, of which a processor runs
+// many beside each other.
+fn marks_4(t: &[bool; 256], s: &[u8], at: usize) -> u64
+    requires { ⌜ at + 4 ≤ length (now s) ⌝ }
+    ensures { λ r. ⌜ r ≡ word (now (t .entry)) (take 4 (drop at (now (s .entry)))) ⌝ }
 {
     let mut w: u64 = 0;
-    let mut i = 16;
+    let mut i = 4;
     while 0 < i {
         i -= 1;
         w = w * 2 + bit(t[s[at + i] as usize]);
@@ -179,6 +180,25 @@ fn bit(x: bool) -> u64
     if x { 1 } else { 0 }
 }
 
+// The words of 8 and of 16 bytes.
+fn marks_8(t: &[bool; 256], s: &[u8], at: usize) -> u64
+    requires { ⌜ at + 8 ≤ length (now s) ⌝ }
+    ensures { λ r. ⌜ r ≡ word (now (t .entry)) (take 8 (drop at (now (s .entry)))) ⌝ }
+{
+    let low = marks_4(t, s, at);
+    let high = marks_4(t, s, at + 4);
+    high * 16 + low
+}
+
+fn marks(t: &[bool; 256], s: &[u8], at: usize) -> u64
+    requires { ⌜ at + 16 ≤ length (now s) ⌝ }
+    ensures { λ r. ⌜ r ≡ word (now (t .entry)) (take 16 (drop at (now (s .entry)))) ⌝ }
+{
+    let low = marks_8(t, s, at);
+    let high = marks_8(t, s, at + 8);
+    high * 256 + low
+}
+
 // The word of 32 bytes.
 fn marks_32(t: &[bool; 256], s: &[u8], at: usize) -> u64
     requires { ⌜ at + 32 ≤ length (now s) ⌝ }
@@ -189,8 +209,7 @@ fn marks_32(t: &[bool; 256], s: &[u8], at: usize) -> u64
     high * 65536 + low
 }
 
-// The word of 64 bytes, or of as many as there are: four chains of 16, which a processor runs beside
-// each other.
+// The word of 64 bytes, or of as many as there are.
 pub fn marks_64(t: &[bool; 256], s: &[u8], at: usize) -> u64
     ensures { λ r. ⌜ r ≡ word (now (t .entry)) (take 64 (drop at (now (s .entry)))) ⌝ }
 {

@@ -1,6 +1,7 @@
 -- `pieces::Check::feed` meets its contract. The loop's invariant: what is left of the piece leads to the state that the whole piece leads to.
 use Prim.Native.Nat.{ℕ, _+_, _-_, _≤_, _<_}
 use mathlib.Core.Path.{_≡_, refl, _∙_, ap, sym}
+use mathlib.Core.Logic.{⊎-elim}
 use mathlib.Core.List.{List}
 use native.Mathlib.Omega.{arith}
 use lib.ListN.{length, take, drop, getD, drop-of-length-le}
@@ -8,7 +9,9 @@ use lib.Seq.{take-all}
 use Rattle.pieces.proofs.Quoted.{fed-at}
 use Rattle.pieces.proofs.Stands.{so-fed}
 use Rattle.pieces.specs.Check.{fed, fedAll}
+use Rattle.pieces.specs.Walk.{Leads}
 use Rattle.pieces.specs.declared.Check.{Check}
+use Rattle.pieces.specs.declared.Reached.{Reached}
 use Rattle.pieces.proofs.Check.feed.Statement.{statement}
 use Rattle.pieces.proofs.Check.feed.Tie as tie
 
@@ -25,6 +28,14 @@ module _ (c : Check) (l : List ℕ) (i : ℕ) where
 whole : (l : List ℕ) → take (length l - 0) l ≡ l
 whole l = take-all (length l - 0) l (omega arith)
 
+-- behind a pass, or none
+module _ (c : Check) (l : List ℕ) (i : ℕ) (d : Check) (j : ℕ) where
+  behind-pass : (r : Reached) → Leads c (take (length l - 0) l) i r → d ≡ r .check → j ≡ r .at → Leads c l i (record { at = j; check = d })
+  behind-pass r q e f = rw (e, f) (rw (whole l) at q)
+
+  behind-none : i ≤ length l → d ≡ c → j ≡ i → Leads c l i (record { at = j; check = d })
+  behind-none h e f = rw (e, f) (record { on = omega arith; within = h; same = refl })
+
 abbrev Inv-loop : tie.InvT-loop
 Inv-loop piece c₀ i₀ c i = (i ≤ length piece) × (fedAll c (drop i piece) ≡ fedAll c₀ piece)
 
@@ -33,15 +44,6 @@ abbrev μ-loop : tie.MeasureT-loop
 
 loop-holds : tie.Need-loop-holds Inv-loop μ-loop
 loop-holds c = (omega arith, refl)
-
-shared-slice-read-taken : tie.Need-shared-slice-read-taken Inv-loop μ-loop
-shared-slice-read-taken c = omega arith
-
-taken-requires : tie.Need-taken-requires Inv-loop μ-loop
-taken-requires c κs = tt
-
-add-i : tie.Need-add-i Inv-loop μ-loop
-add-i c = omega arith
 
 sub-if1 : tie.Need-sub-if1 Inv-loop μ-loop
 sub-if1 c = omega arith
@@ -57,31 +59,52 @@ part-passed-end c = omega arith
 
 passed-requires : tie.Need-passed-requires Inv-loop μ-loop
 passed-requires c κs =
-    let l = c .before .before .before .before .before .loop in
-    rw (whole (c .before .before .before .before .before .before .before .args .piece .now)) (omega arith)
+    let l = c .before .before .before .loop in
+    rw (whole (c .before .before .before .before .before .args .piece .now)) (omega arith)
+
+shared-slice-read-taken : tie.Need-shared-slice-read-taken Inv-loop μ-loop
+shared-slice-read-taken c = omega arith
+
+taken-requires : tie.Need-taken-requires Inv-loop μ-loop
+taken-requires c κs = tt
+
+add-i : tie.Need-add-i Inv-loop μ-loop
+add-i c = omega arith
 
 loop-less : tie.Need-loop-less Inv-loop μ-loop
 loop-less c =
-    let q = rw (whole (c .before .before .before .before .before .before .before .before .before .args .piece .now)) at (c .before .passed .ensures) in
-    omega (arith, q .on, q .within)
+    let piece = c .before .before .before .before .before .before .before .before .args .piece .now in
+    let l = c .before .before .before .before .before .before .loop in
+    let j = c .before .before .before .before .if1 in
+    let q : Leads (l .c) piece (l .i) (record { at = j .i; check = j .c }) =
+    ⊎-elim (λ w. behind-pass (l .c) piece (l .i) (j .c) (j .i) (w .2 .result) (w .2 .ensures) (w .4) (w .5)) (λ w. behind-none (l .c) piece (l .i) (j .c) (j .i) (l .inv .0) (w .1) (w .2)) (j .came) in
+    omega (arith, q .on, c .before .before .before .if2 .taken)
 
 loop-again : tie.Need-loop-again Inv-loop μ-loop
 loop-again c =
-    let piece = c .before .before .before .before .before .before .before .before .before .args .piece .now in
-    let q = rw (whole piece) at (c .before .passed .ensures) in
-    let d = c .before .before .before .before .taken in
-    let l = c .before .before .before .before .before .before .before .loop in
-    (q .within, q .same ∙ one-more (l .c) piece (l .i) (d .result) (omega arith) (d .ensures) ∙ l .inv .1)
+    let piece = c .before .before .before .before .before .before .before .before .args .piece .now in
+    let l = c .before .before .before .before .before .before .loop in
+    let j = c .before .before .before .before .if1 in
+    let q : Leads (l .c) piece (l .i) (record { at = j .i; check = j .c }) =
+    ⊎-elim (λ w. behind-pass (l .c) piece (l .i) (j .c) (j .i) (w .2 .result) (w .2 .ensures) (w .4) (w .5)) (λ w. behind-none (l .c) piece (l .i) (j .c) (j .i) (l .inv .0) (w .1) (w .2)) (j .came) in
+    let d = c .before .taken in
+    (omega arith, one-more (j .c) piece (j .i) (d .result) (c .before .before .before .if2 .taken) (d .ensures) ∙ q .same ∙ l .inv .1)
 
 loop-less-2 : tie.Need-loop-less-2 Inv-loop μ-loop
-loop-less-2 c = omega arith
+loop-less-2 c =
+    let piece = c .before .before .before .before .before .args .piece .now in
+    let l = c .before .before .before .loop in
+    let j = c .before .if1 in
+    omega (arith, c .if2 .left, c .before .before .loop-test .taken)
 
 loop-again-2 : tie.Need-loop-again-2 Inv-loop μ-loop
 loop-again-2 c =
-    let d = c .before .taken in
-    let l = c .before .before .before .before .loop in
-    let piece = c .before .before .before .before .before .before .args .piece .now in
-    (omega arith, one-more (l .c) piece (l .i) (d .result) (omega arith) (d .ensures) ∙ l .inv .1)
+    let piece = c .before .before .before .before .before .args .piece .now in
+    let l = c .before .before .before .loop in
+    let j = c .before .if1 in
+    let q : Leads (l .c) piece (l .i) (record { at = j .i; check = j .c }) =
+    ⊎-elim (λ w. behind-pass (l .c) piece (l .i) (j .c) (j .i) (w .2 .result) (w .2 .ensures) (w .4) (w .5)) (λ w. behind-none (l .c) piece (l .i) (j .c) (j .i) (l .inv .0) (w .1) (w .2)) (j .came) in
+    (q .within, q .same ∙ l .inv .1)
 
 returns : tie.Need-returns Inv-loop μ-loop
 returns c = so-fed (sym (fed-none _ _ _ (c .loop-test .left)) ∙ c .before .loop .inv .1)
@@ -93,14 +116,14 @@ feed-spec =
     Inv-loop
     μ-loop
     loop-holds
-    shared-slice-read-taken
-    taken-requires
-    add-i
     sub-if1
     sub-passed
     part-passed-start
     part-passed-end
     passed-requires
+    shared-slice-read-taken
+    taken-requires
+    add-i
     loop-less
     loop-again
     loop-less-2
