@@ -1,5 +1,7 @@
 -- `pieces::Check::taken` meets its contract.
-use mathlib.Core.Path.{sym}
+use mathlib.Core.Path.{sym, ap, _∙_}
+use Rattle.format.specs.declared.Place.{Place}
+use Rattle.pieces.specs.Check.{placed}
 use Rattle.pieces.proofs.Jumps.{refused-step, one-shut}
 use borrow.Author.Needs.{needs}
 use Rattle.pieces.proofs.Check.taken.Statement.{statement}
@@ -13,8 +15,8 @@ placed-requires c κs = search needs
 
 returns : tie.Need-returns
 returns c =
-    let a = c .before .before .before .before .before in
-    rw (c .placed .ensures, c .before .moved .ensures) (sym (refused-step (a .args .self) (a .args .b) (c .before .before .if1 .taken)))
+    let a = c .before .before .before .before .before .args in
+    c .placed .ensures ∙ ap (λ (p : Place). placed p (a .self)) (c .before .moved .ensures) ∙ sym (refused-step (a .self) (a .b) (c .before .before .if1 .taken))
 
 jump-form-requires : tie.Need-jump-form-requires
 jump-form-requires c κs = search needs
