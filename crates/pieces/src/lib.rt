@@ -135,7 +135,7 @@ fn moved(b: u8, p: Place) -> Place
 fn counted(n: usize) -> u32
     ensures { λ r. ⌜ r ≡ min n counterLimit ⌝ }
 {
-    if n < 16777217 {
+    if n < (COUNTER_LIMIT as usize) {
         n as u32
     } else {
         COUNTER_LIMIT

@@ -103,7 +103,7 @@ module _ (t : List Bool) where
       rw e at (word-none (take n (drop at s)))
 
   -- two parts beside each other
-  pub part-join :
+  part-join :
       (s : Bytes) (at n m : ℕ) → at + n + m ≤ length s → word t (take (n + m) (drop at s)) ≡ word t (take m (drop (at + n) s)) * 2 ^ n + word t (take n (drop at s))
   part-join s at n m h =
       let e : length (take n (drop at s)) ≡ n = length-take-le n (drop at s) (rw (length-drop at s) (omega arith)) in
@@ -111,8 +111,16 @@ module _ (t : List Bool) where
       ∙ word-join (take n (drop at s)) (take m (drop n (drop at s)))
       ∙ ap₂ (λ (l : Bytes) (k : ℕ). word t (take m l) * 2 ^ k + word t (take n (drop at s))) (drop-drop n at s) e
 
-  pub part-small : (s : Bytes) (at n : ℕ) → word t (take n (drop at s)) < 2 ^ n
+  part-small : (s : Bytes) (at n : ℕ) → word t (take n (drop at s)) < 2 ^ n
   part-small s at n = word-below (take n (drop at s)) n (rw (length-take n (drop at s)) (omega arith))
+
+  -- a word of two halves
+  module _ (s : Bytes) (at n high low : ℕ) (l : low ≡ word t (take n (drop at s))) (h : high ≡ word t (take n (drop (at + n) s))) where
+    pub halves-fit : (low < 2 ^ n) × (high < 2 ^ n)
+    halves-fit = (rw l (part-small s at n), rw h (part-small s (at + n) n))
+
+    pub halves-join : at + n + n ≤ length s → high * 2 ^ n + low ≡ word t (take (n + n) (drop at s))
+    halves-join room = rw (l, h) (sym (part-join s at n n room))
 
   -- a word of no marks, and one of some
   pub word-clear : (s : Bytes) → word t s ≡ 0 → run unmarked s ≡ length s

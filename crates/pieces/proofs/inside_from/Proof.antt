@@ -3,8 +3,8 @@ use Prim.Native.Nat.{ℕ, _+_, _-_, _≤_, _<_}
 use mathlib.Core.Path.{_≡_, ap}
 use native.Mathlib.Omega.{arith}
 use lib.Count.{trailingZeros}
-use lib.ListN.{length, getD}
-use Rattle.runs.specs.Runs.{isInner}
+use lib.ListN.{length, getD, drop}
+use Rattle.runs.specs.Runs.{run, isInner}
 use Rattle.runs.specs.Words.{Marks}
 use Rattle.pieces.specs.declared.Inside.{Inside}
 use Rattle.pieces.specs.Walk.{Between}
@@ -27,133 +27,104 @@ loop-holds c =
 inner-blocks-requires : tie.Need-inner-blocks-requires Inv-loop μ-loop
 inner-blocks-requires c κs = tt
 
+-- behind whole blocks
+behind-blocks :
+    (c : tie.After-run-on Inv-loop μ-loop)
+    → let a = c .before .before .before .before .before .before .args in let y = c .run-on .result in Between (a .s .now) (a .at) y × (run isInner (drop (y .end) (a .s .now)) < 16)
+behind-blocks c =
+    let a = c .before .before .before .before .before .before .args in
+    let l = c .before .before .before .before .loop in
+    let k = c .before .inner-blocks in
+    let y = c .run-on in
+    blocks-on (a .s .now) (a .at) (l .x) (l .inv .0) (k .result) (k .ensures) (y .result) (y .ensures)
+
+-- the bytes to the end, where none is marked
+to-end :
+    (c : tie.Then2 Inv-loop μ-loop)
+    → let s = c .before .before .before .before .before .before .before .before .args .s .now in let y = c .before .before .run-on .result in length s - y .end ≤ run isInner (drop (y .end) s)
+to-end c =
+    let a = c .before .before .before .before .before .before .before .before .args in
+    let h = c .before .before .before .before .before .before .loop .inv in
+    let y = c .before .before .run-on .result in
+    let w = c .before .marks-16 in
+    let b = behind-blocks (c .before .before) in
+    without-mark (a .t .now) (h .1) (a .s .now) (h .2) (a .at) y (b .0) (w .result) (w .ensures) (c .if2 .taken) (b .1)
+
+-- the bytes to the first mark
+to-mark :
+    (c : tie.Else2 Inv-loop μ-loop)
+    → let s = c .before .before .before .before .before .before .before .before .args .s .now in let y = c .before .before .run-on .result in let k = trailingZeros 64 (c .before .marks-16 .result) in
+    (y .end + k < length s) × (k < 64) × (k ≤ run isInner (drop (y .end) s))
+to-mark c =
+    let a = c .before .before .before .before .before .before .before .before .args in
+    let h = c .before .before .before .before .before .before .loop .inv in
+    let y = c .before .before .run-on .result in
+    let w = c .before .marks-16 in
+    before-mark (a .t .now) (h .1) (a .s .now) (h .2) (a .at) y (behind-blocks (c .before .before) .0) (w .result) (w .ensures) (c .if2 .left)
+
+at-stop : (c : tie.After-run-on3 Inv-loop μ-loop) → let a = c .before .before .before .before .before .before .before .before .before .args in Between (a .s .now) (a .at) (c .run-on3 .result)
+at-stop c =
+    let a = c .before .before .before .before .before .before .before .before .before .args in
+    rw (c .run-on3 .ensures) (between-run (a .s .now) (a .at) (c .before .before .before .run-on .result) (behind-blocks (c .before .before .before) .0) (trailingZeros 64 (c .before .before .marks-16 .result)) (to-mark (c .before) .2))
+
+behind-stop : (c : tie.After-stop-on Inv-loop μ-loop) → let a = c .before .before .before .before .before .before .before .before .before .before .args in Between (a .s .now) (a .at) (c .stop-on .result)
+behind-stop c = c .stop-on .ensures .more (c .before .before .before .before .before .before .before .before .before .before .args .at) (at-stop (c .before))
+
 run-on-requires : tie.Need-run-on-requires Inv-loop μ-loop
 run-on-requires c κs =
     let l = c .before .before .before .loop in
     let a = c .before .before .before .before .before .args in
-    let h = l .inv in
     let k = c .inner-blocks in
-    run-fits (a .s .now) (a .at) (l .x) (k .result) (h .0) (h .3) (omega (arith, k .ensures))
+    run-fits (a .s .now) (a .at) (l .x) (k .result) (l .inv .0) (l .inv .3) (omega (arith, k .ensures))
 
 marks-16-requires : tie.Need-marks-16-requires Inv-loop μ-loop
 marks-16-requires c κs = tt
 
 sub-run-on : tie.Need-sub-run-on Inv-loop μ-loop
-sub-run-on c =
-    let l = c .before .before .before .before .before .before .before .loop in
-    let a = c .before .before .before .before .before .before .before .before .before .args in
-    let h = l .inv in
-    let k = c .before .before .before .before .inner-blocks in
-    let y = c .before .before .before .run-on in
-    let b = blocks-on (a .s .now) (a .at) (l .x) (h .0) (k .result) (k .ensures) (y .result) (y .ensures) in
-    b .0 .within
+sub-run-on c = behind-blocks (c .before .before .before) .0 .within
 
 run-on-requires-2 : tie.Need-run-on-requires-2 Inv-loop μ-loop
 run-on-requires-2 c κs =
-    let l = c .before .before .before .before .before .before .before .loop in
     let a = c .before .before .before .before .before .before .before .before .before .args in
-    let h = l .inv in
-    let k = c .before .before .before .before .inner-blocks in
-    let y = c .before .before .before .run-on in
-    let b = blocks-on (a .s .now) (a .at) (l .x) (h .0) (k .result) (k .ensures) (y .result) (y .ensures) in
-    let w = c .before .before .marks-16 in
-    let m = without-mark (a .t .now) (h .1) (a .s .now) (h .2) (a .at) (y .result) (b .0) (w .result) (w .ensures) (c .before .if2 .taken) (b .1) in
-    run-fits (a .s .now) (a .at) (y .result) (length (a .s .now) - y .result .end) (b .0) (h .3) m
+    let y = c .before .before .before .run-on .result in
+    run-fits (a .s .now) (a .at) y (length (a .s .now) - y .end) (behind-blocks (c .before .before .before) .0) (c .before .before .before .before .before .before .before .loop .inv .3) (to-end (c .before))
 
 returns : tie.Need-returns Inv-loop μ-loop
 returns c =
-    let l = c .before .before .before .before .before .before .before .before .loop in
     let a = c .before .before .before .before .before .before .before .before .before .before .args in
-    let h = l .inv in
-    let k = c .before .before .before .before .before .inner-blocks in
-    let y = c .before .before .before .before .run-on in
-    let b = blocks-on (a .s .now) (a .at) (l .x) (h .0) (k .result) (k .ensures) (y .result) (y .ensures) in
-    let w = c .before .before .before .marks-16 in
-    let m = without-mark (a .t .now) (h .1) (a .s .now) (h .2) (a .at) (y .result) (b .0) (w .result) (w .ensures) (c .before .before .if2 .taken) (b .1) in
-    rw (c .run-on2 .ensures) (between-run (a .s .now) (a .at) (y .result) (b .0) (length (a .s .now) - y .result .end) m)
+    let y = c .before .before .before .before .run-on .result in
+    rw (c .run-on2 .ensures) (between-run (a .s .now) (a .at) y (behind-blocks (c .before .before .before .before) .0) (length (a .s .now) - y .end) (to-end (c .before .before)))
 
 cast-run-on : tie.Need-cast-run-on Inv-loop μ-loop
-cast-run-on c =
-    let l = c .before .before .before .before .before .before .loop in
-    let a = c .before .before .before .before .before .before .before .before .args in
-    let h = l .inv in
-    let k = c .before .before .before .inner-blocks in
-    let y = c .before .before .run-on in
-    let b = blocks-on (a .s .now) (a .at) (l .x) (h .0) (k .result) (k .ensures) (y .result) (y .ensures) in
-    let w = c .before .marks-16 in
-    let m = before-mark (a .t .now) (h .1) (a .s .now) (h .2) (a .at) (y .result) (b .0) (w .result) (w .ensures) (c .if2 .left) in
-    let low = m .1 in
-    omega arith
+cast-run-on c = omega (arith, to-mark c .1)
 
 run-on-requires-3 : tie.Need-run-on-requires-3 Inv-loop μ-loop
 run-on-requires-3 c κs =
-    let l = c .before .before .before .before .before .before .loop in
     let a = c .before .before .before .before .before .before .before .before .args in
-    let h = l .inv in
-    let k = c .before .before .before .inner-blocks in
-    let y = c .before .before .run-on in
-    let b = blocks-on (a .s .now) (a .at) (l .x) (h .0) (k .result) (k .ensures) (y .result) (y .ensures) in
-    let w = c .before .marks-16 in
-    let m = before-mark (a .t .now) (h .1) (a .s .now) (h .2) (a .at) (y .result) (b .0) (w .result) (w .ensures) (c .if2 .left) in
-    run-fits (a .s .now) (a .at) (y .result) (trailingZeros 64 (w .result)) (b .0) (h .3) (m .2)
+    run-fits (a .s .now) (a .at) (c .before .before .run-on .result) (trailingZeros 64 (c .before .marks-16 .result)) (behind-blocks (c .before .before) .0) (c .before .before .before .before .before .before .loop .inv .3) (to-mark c .2)
 
 stop-on-requires : tie.Need-stop-on-requires Inv-loop μ-loop
 stop-on-requires c κs =
-    let l = c .before .before .before .before .before .before .before .loop in
-    let a = c .before .before .before .before .before .before .before .before .before .args in
-    let h = l .inv in
-    let k = c .before .before .before .before .inner-blocks in
-    let y = c .before .before .before .run-on in
-    let b = blocks-on (a .s .now) (a .at) (l .x) (h .0) (k .result) (k .ensures) (y .result) (y .ensures) in
-    let w = c .before .before .marks-16 in
-    let m = before-mark (a .t .now) (h .1) (a .s .now) (h .2) (a .at) (y .result) (b .0) (w .result) (w .ensures) (c .before .if2 .left) in
-    let g = between-run (a .s .now) (a .at) (y .result) (b .0) (trailingZeros 64 (w .result)) (m .2) in
-    rw (c .run-on3 .ensures) (m .0, omega (arith, g .content), omega (arith, g .lines), omega (arith, g .tail))
+    let g = at-stop c in
+    let m = to-mark (c .before) .0 in
+    let z = ap (λ (q : Inside). q .end) (c .run-on3 .ensures) in
+    (omega (arith, m, z), omega (arith, g .content), omega (arith, g .lines), omega (arith, g .tail))
 
 returns-2 : tie.Need-returns-2 Inv-loop μ-loop
-returns-2 c =
-    let l = c .before .before .before .before .before .before .before .before .before .before .before .loop in
-    let a = c .before .before .before .before .before .before .before .before .before .before .before .before .before .args in
-    let h = l .inv in
-    let k = c .before .before .before .before .before .before .before .before .inner-blocks in
-    let y = c .before .before .before .before .before .before .before .run-on in
-    let b = blocks-on (a .s .now) (a .at) (l .x) (h .0) (k .result) (k .ensures) (y .result) (y .ensures) in
-    let w = c .before .before .before .before .before .before .marks-16 in
-    let m = before-mark (a .t .now) (h .1) (a .s .now) (h .2) (a .at) (y .result) (b .0) (w .result) (w .ensures) (c .before .before .before .before .before .if2 .left) in
-    let g = between-run (a .s .now) (a .at) (y .result) (b .0) (trailingZeros 64 (w .result)) (m .2) in
-    c .before .before .before .stop-on .ensures .more (a .at) (rw (c .before .before .before .before .run-on3 .ensures) g)
+returns-2 c = behind-stop (c .before .before .before)
 
 loop-less : tie.Need-loop-less Inv-loop μ-loop
 loop-less c =
-    let l = c .before .before .before .before .before .before .before .before .before .before .before .loop in
-    let a = c .before .before .before .before .before .before .before .before .before .before .before .before .before .args in
-    let h = l .inv in
-    let k = c .before .before .before .before .before .before .before .before .inner-blocks in
-    let y = c .before .before .before .before .before .before .before .run-on in
-    let b = blocks-on (a .s .now) (a .at) (l .x) (h .0) (k .result) (k .ensures) (y .result) (y .ensures) in
-    let w = c .before .before .before .before .before .before .marks-16 in
-    let m = before-mark (a .t .now) (h .1) (a .s .now) (h .2) (a .at) (y .result) (b .0) (w .result) (w .ensures) (c .before .before .before .before .before .if2 .left) in
-    let g = between-run (a .s .now) (a .at) (y .result) (b .0) (trailingZeros 64 (w .result)) (m .2) in
-    let r = c .before .before .before .stop-on .ensures in
-    let v = r .more (a .at) (rw (c .before .before .before .before .run-on3 .ensures) g) in
     let z = ap (λ (q : Inside). q .end) (c .before .before .before .before .run-on3 .ensures) in
-    let y′ = ap (λ (q : Inside). q .end) (y .ensures) in
-    let on = r .on in
-    let within = v .within in
+    let y = ap (λ (q : Inside). q .end) (c .before .before .before .before .before .before .before .run-on .ensures) in
+    let on = c .before .before .before .stop-on .ensures .on in
+    let within = behind-stop (c .before .before .before) .within in
     omega (arith, c .if3 .left)
 
 loop-again : tie.Need-loop-again Inv-loop μ-loop
 loop-again c =
-    let l = c .before .before .before .before .before .before .before .before .before .before .before .loop in
-    let a = c .before .before .before .before .before .before .before .before .before .before .before .before .before .args in
-    let h = l .inv in
-    let k = c .before .before .before .before .before .before .before .before .inner-blocks in
-    let y = c .before .before .before .before .before .before .before .run-on in
-    let b = blocks-on (a .s .now) (a .at) (l .x) (h .0) (k .result) (k .ensures) (y .result) (y .ensures) in
-    let w = c .before .before .before .before .before .before .marks-16 in
-    let m = before-mark (a .t .now) (h .1) (a .s .now) (h .2) (a .at) (y .result) (b .0) (w .result) (w .ensures) (c .before .before .before .before .before .if2 .left) in
-    let g = between-run (a .s .now) (a .at) (y .result) (b .0) (trailingZeros 64 (w .result)) (m .2) in
-    (c .before .before .before .stop-on .ensures .more (a .at) (rw (c .before .before .before .before .run-on3 .ensures) g), h .1, h .2, h .3)
+    let h = c .before .before .before .before .before .before .before .before .before .before .before .loop .inv in
+    (behind-stop (c .before .before .before), h .1, h .2, h .3)
 
 returns-3 : tie.Need-returns-3 Inv-loop μ-loop
 returns-3 c = c .before .before .loop .inv .0

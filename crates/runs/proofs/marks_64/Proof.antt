@@ -1,9 +1,8 @@
 -- `runs::marks_64` meets its contract.
 use Prim.Native.Nat.{_+_, _≤_}
-use mathlib.Core.Path.{sym}
 use native.Mathlib.Omega.{arith}
 use lib.ListN.{length}
-use Rattle.runs.proofs.Words.{part-join, part-small}
+use Rattle.runs.proofs.Words.{halves-fit, halves-join}
 use borrow.Author.Needs.{needs}
 use Rattle.runs.proofs.marks_64.Statement.{statement}
 use Rattle.runs.proofs.marks_64.Tie as tie
@@ -34,29 +33,19 @@ marks-32-requires-2 c κs = search needs
 
 mul-result : tie.Need-mul-result
 mul-result c =
-    let a = c .before .before .before .before .before in
-    let lo = c .before .marks-32 in
-    let hi = c .marks-322 in
-    let x = part-small (a .args .t .now) (a .args .s .now) (a .args .at) 32 in
-    let y = part-small (a .args .t .now) (a .args .s .now) (a .args .at + 32) 32 in
-    omega (arith, x, y, lo .ensures, hi .ensures)
+    let a = c .before .before .before .before .before .args in
+    omega (arith, halves-fit (a .t .now) (a .s .now) (a .at) 32 (c .marks-322 .result) (c .before .marks-32 .result) (c .before .marks-32 .ensures) (c .marks-322 .ensures))
 
 add-result : tie.Need-add-result
 add-result c =
-    let a = c .before .before .before .before .before in
-    let lo = c .before .marks-32 in
-    let hi = c .marks-322 in
-    let x = part-small (a .args .t .now) (a .args .s .now) (a .args .at) 32 in
-    let y = part-small (a .args .t .now) (a .args .s .now) (a .args .at + 32) 32 in
-    omega (arith, x, y, lo .ensures, hi .ensures)
+    let a = c .before .before .before .before .before .args in
+    omega (arith, halves-fit (a .t .now) (a .s .now) (a .at) 32 (c .marks-322 .result) (c .before .marks-32 .result) (c .before .marks-32 .ensures) (c .marks-322 .ensures))
 
 returns-3 : tie.Need-returns-3
 returns-3 c =
-    let a = c .before .before .before .before .before in
-    let lo = c .before .marks-32 in
-    let hi = c .marks-322 in
-    let room : a .args .at + 32 + 32 ≤ length (a .args .s .now) = omega (arith, c .before .before .if2 .left, c .before .before .before .if1 .left) in
-    rw (hi .ensures, lo .ensures) (sym (part-join (a .args .t .now) (a .args .s .now) (a .args .at) 32 32 room))
+    let a = c .before .before .before .before .before .args in
+    let room : a .at + 32 + 32 ≤ length (a .s .now) = omega (arith, c .before .before .if2 .left, c .before .before .before .if1 .left) in
+    halves-join (a .t .now) (a .s .now) (a .at) 32 (c .marks-322 .result) (c .before .marks-32 .result) (c .before .marks-32 .ensures) (c .marks-322 .ensures) room
 
 pub marks-64-spec : {M : Type 1} → statement M
 marks-64-spec =

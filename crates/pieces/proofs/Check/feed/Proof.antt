@@ -62,6 +62,19 @@ passed-requires c κs =
     let l = c .before .before .before .loop in
     rw (whole (c .before .before .before .before .before .args .piece .now)) (omega arith)
 
+-- what has been reached where the two ways join
+led :
+    (c : tie.Joined1 Inv-loop μ-loop)
+    → let l = c .before .before .loop in Leads (l .c) (c .before .before .before .before .args .piece .now) (l .i) (record { at = c .if1 .i; check = c .if1 .c })
+led c =
+    let l = c .before .before .loop in
+    let piece = c .before .before .before .before .args .piece .now in
+    let j = c .if1 in
+    ⊎-elim
+    (λ w. behind-pass (l .c) piece (l .i) (j .c) (j .i) (w .2 .result) (w .2 .ensures) (w .4) (w .5))
+    (λ w. behind-none (l .c) piece (l .i) (j .c) (j .i) (l .inv .0) (w .1) (w .2))
+    (j .came)
+
 shared-slice-read-taken : tie.Need-shared-slice-read-taken Inv-loop μ-loop
 shared-slice-read-taken c = omega arith
 
@@ -72,39 +85,19 @@ add-i : tie.Need-add-i Inv-loop μ-loop
 add-i c = omega arith
 
 loop-less : tie.Need-loop-less Inv-loop μ-loop
-loop-less c =
-    let piece = c .before .before .before .before .before .before .before .before .args .piece .now in
-    let l = c .before .before .before .before .before .before .loop in
-    let j = c .before .before .before .before .if1 in
-    let q : Leads (l .c) piece (l .i) (record { at = j .i; check = j .c }) =
-    ⊎-elim (λ w. behind-pass (l .c) piece (l .i) (j .c) (j .i) (w .2 .result) (w .2 .ensures) (w .4) (w .5)) (λ w. behind-none (l .c) piece (l .i) (j .c) (j .i) (l .inv .0) (w .1) (w .2)) (j .came) in
-    omega (arith, q .on, c .before .before .before .if2 .taken)
+loop-less c = omega (arith, led (c .before .before .before .before) .on, c .before .before .before .if2 .taken)
 
 loop-again : tie.Need-loop-again Inv-loop μ-loop
 loop-again c =
-    let piece = c .before .before .before .before .before .before .before .before .args .piece .now in
-    let l = c .before .before .before .before .before .before .loop in
     let j = c .before .before .before .before .if1 in
-    let q : Leads (l .c) piece (l .i) (record { at = j .i; check = j .c }) =
-    ⊎-elim (λ w. behind-pass (l .c) piece (l .i) (j .c) (j .i) (w .2 .result) (w .2 .ensures) (w .4) (w .5)) (λ w. behind-none (l .c) piece (l .i) (j .c) (j .i) (l .inv .0) (w .1) (w .2)) (j .came) in
     let d = c .before .taken in
-    (omega arith, one-more (j .c) piece (j .i) (d .result) (c .before .before .before .if2 .taken) (d .ensures) ∙ q .same ∙ l .inv .1)
+    (omega arith, one-more (j .c) (c .before .before .before .before .before .before .before .before .args .piece .now) (j .i) (d .result) (c .before .before .before .if2 .taken) (d .ensures) ∙ led (c .before .before .before .before) .same ∙ c .before .before .before .before .before .before .loop .inv .1)
 
 loop-less-2 : tie.Need-loop-less-2 Inv-loop μ-loop
-loop-less-2 c =
-    let piece = c .before .before .before .before .before .args .piece .now in
-    let l = c .before .before .before .loop in
-    let j = c .before .if1 in
-    omega (arith, c .if2 .left, c .before .before .loop-test .taken)
+loop-less-2 c = omega (arith, c .if2 .left, c .before .before .loop-test .taken)
 
 loop-again-2 : tie.Need-loop-again-2 Inv-loop μ-loop
-loop-again-2 c =
-    let piece = c .before .before .before .before .before .args .piece .now in
-    let l = c .before .before .before .loop in
-    let j = c .before .if1 in
-    let q : Leads (l .c) piece (l .i) (record { at = j .i; check = j .c }) =
-    ⊎-elim (λ w. behind-pass (l .c) piece (l .i) (j .c) (j .i) (w .2 .result) (w .2 .ensures) (w .4) (w .5)) (λ w. behind-none (l .c) piece (l .i) (j .c) (j .i) (l .inv .0) (w .1) (w .2)) (j .came) in
-    (q .within, q .same ∙ l .inv .1)
+loop-again-2 c = let q = led (c .before) in (q .within, q .same ∙ c .before .before .before .loop .inv .1)
 
 returns : tie.Need-returns Inv-loop μ-loop
 returns c = so-fed (sym (fed-none _ _ _ (c .loop-test .left)) ∙ c .before .loop .inv .1)

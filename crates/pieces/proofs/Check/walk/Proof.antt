@@ -52,74 +52,47 @@ loop2-holds c =
     let e = c .before .block-end .ensures in
     (record { walking = l .inv .0; ground = l .inv .1; marked = rw (sym e) at (k .marked); within = omega (arith, e, k .within); small = omega (arith, e, k .small) }, l .inv .2)
 
-cast-placed-at : tie.Need-cast-placed-at Inv-loop2 μ-loop2 Inv-loop μ-loop
-cast-placed-at c =
-    let a = c .before .before .before .before .before .before .before .before .before in
+-- the first mark of a word that has one
+at-first :
+    (c : tie.In-loop2 Inv-loop2 μ-loop2 Inv-loop μ-loop)
+    → let a = c .before .before .before .before .before .before .before .before .before .args in let l = c .before .loop2 in Mark (a .self) (a .s .now) (a .at) (l .x) (trailingZeros 64 (l .w))
+at-first c =
+    let a = c .before .before .before .before .before .before .before .before .before .args in
     let l = c .before .loop2 in
-    let e = c .before .before .before .block-end .result in
-    let m = first-mark (a .args .self) (a .args .t .now) (a .args .s .now) (a .args .at) (l .x) e (l .w) (l .inv .0) (c .loop2-test .taken) in
-    let low = m .low in
-    let inside = m .inside in
-    let short = m .short in
-    omega arith
+    first-mark (a .self) (a .t .now) (a .s .now) (a .at) (l .x) (c .before .before .before .block-end .result) (l .w) (l .inv .0) (c .loop2-test .taken)
+
+-- the walk there, and behind it
+to-mark : (c : tie.After-placed-at Inv-loop2 μ-loop2 Inv-loop μ-loop) → let a = c .before .before .before .before .before .before .before .before .before .before .before .args in Walking (a .self) (a .s .now) (a .at) (c .placed-at .result)
+to-mark c = rw (c .placed-at .ensures) (at-first (c .before .before) .walking)
+
+behind-mark : (c : tie.After-at-mark Inv-loop2 μ-loop2 Inv-loop μ-loop) → let a = c .before .before .before .before .before .before .before .before .before .before .before .before .args in Walking (a .self) (a .s .now) (a .at) (c .at-mark .result)
+behind-mark c = c .at-mark .ensures .goes (c .before .before .before .before .before .before .before .before .before .before .before .before .args .at) (to-mark (c .before))
+
+at-is : (c : tie.After-placed-at Inv-loop2 μ-loop2 Inv-loop μ-loop) → let l = c .before .before .before .loop2 in c .placed-at .result .at ≡ l .x .at + trailingZeros 64 (l .w)
+at-is c = ap (λ (q : Walk). q .at) (c .placed-at .ensures)
+
+cast-placed-at : tie.Need-cast-placed-at Inv-loop2 μ-loop2 Inv-loop μ-loop
+cast-placed-at c = let m = at-first c in omega (arith, m .low)
 
 add-placed-at : tie.Need-add-placed-at Inv-loop2 μ-loop2 Inv-loop μ-loop
-add-placed-at c =
-    let a = c .before .before .before .before .before .before .before .before .before .before in
-    let l = c .before .before .loop2 in
-    let e = c .before .before .before .before .block-end .result in
-    let m = first-mark (a .args .self) (a .args .t .now) (a .args .s .now) (a .args .at) (l .x) e (l .w) (l .inv .0) (c .before .loop2-test .taken) in
-    let low = m .low in
-    let inside = m .inside in
-    let short = m .short in
-    omega arith
+add-placed-at c = let m = at-first (c .before) in omega (arith, m .inside, m .short)
 
 placed-at-requires : tie.Need-placed-at-requires Inv-loop2 μ-loop2 Inv-loop μ-loop
 placed-at-requires c κs = tt
 
 at-mark-requires : tie.Need-at-mark-requires Inv-loop2 μ-loop2 Inv-loop μ-loop
 at-mark-requires c κs =
-    let a = c .before .before .before .before .before .before .before .before .before .before .before in
-    let l = c .before .before .before .loop2 in
-    let e = c .before .before .before .before .before .block-end .result in
-    let m = first-mark (a .args .self) (a .args .t .now) (a .args .s .now) (a .args .at) (l .x) e (l .w) (l .inv .0) (c .before .before .loop2-test .taken) in
-    let low = m .low in
-    let inside = m .inside in
-    let short = m .short in
-    (l .inv .1, rw (c .placed-at .ensures) (sized (a .args .self) (a .args .s .now) (a .args .at) (placedAt (l .x) (l .x .at + trailingZeros 64 (l .w))) (m .walking) inside))
+    let a = c .before .before .before .before .before .before .before .before .before .before .before .args in
+    (c .before .before .before .loop2 .inv .1, sized (a .self) (a .s .now) (a .at) (c .placed-at .result) (to-mark c) (omega (arith, at-is c, at-first (c .before .before) .inside)))
 
 returns : tie.Need-returns Inv-loop2 μ-loop2 Inv-loop μ-loop
-returns c =
-    let a = c .before .before .before .before .before .before .before .before .before .before .before .before .before .before .before in
-    let l = c .before .before .before .before .before .before .before .loop2 in
-    let e = c .before .before .before .before .before .before .before .before .before .block-end .result in
-    let m = first-mark (a .args .self) (a .args .t .now) (a .args .s .now) (a .args .at) (l .x) e (l .w) (l .inv .0) (c .before .before .before .before .before .before .loop2-test .taken) in
-    let low = m .low in
-    let inside = m .inside in
-    let short = m .short in
-    c .before .before .before .at-mark .ensures .goes (a .args .at) (rw (c .before .before .before .before .placed-at .ensures) (m .walking))
+returns c = behind-mark (c .before .before .before)
 
 cast-shifted : tie.Need-cast-shifted Inv-loop2 μ-loop2 Inv-loop μ-loop
-cast-shifted c =
-    let a = c .before .before .before .before .before .before .before .before .before .before .before .before .before .before .before in
-    let l = c .before .before .before .before .before .before .before .loop2 in
-    let e = c .before .before .before .before .before .before .before .before .before .block-end .result in
-    let m = first-mark (a .args .self) (a .args .t .now) (a .args .s .now) (a .args .at) (l .x) e (l .w) (l .inv .0) (c .before .before .before .before .before .before .loop2-test .taken) in
-    let low = m .low in
-    let inside = m .inside in
-    let short = m .short in
-    omega arith
+cast-shifted c = let m = at-first (c .before .before .before .before .before .before) in omega (arith, m .low)
 
 shr-shifted : tie.Need-shr-shifted Inv-loop2 μ-loop2 Inv-loop μ-loop
-shr-shifted c =
-    let a = c .before .before .before .before .before .before .before .before .before .before .before .before .before .before .before in
-    let l = c .before .before .before .before .before .before .before .loop2 in
-    let e = c .before .before .before .before .before .before .before .before .before .block-end .result in
-    let m = first-mark (a .args .self) (a .args .t .now) (a .args .s .now) (a .args .at) (l .x) e (l .w) (l .inv .0) (c .before .before .before .before .before .before .loop2-test .taken) in
-    let low = m .low in
-    let inside = m .inside in
-    let short = m .short in
-    omega arith
+shr-shifted c = let m = at-first (c .before .before .before .before .before .before) in omega (arith, m .low)
 
 sub-shifted : tie.Need-sub-shifted Inv-loop2 μ-loop2 Inv-loop μ-loop
 sub-shifted c = c .before .before .before .before .before .at-mark .ensures .on
@@ -129,35 +102,22 @@ shifted-requires c κs = tt
 
 loop2-less : tie.Need-loop2-less Inv-loop2 μ-loop2 Inv-loop μ-loop
 loop2-less c =
-    let a = c .before .before .before .before .before .before .before .before .before .before .before .before .before .before .before .before .before .before in
-    let l = c .before .before .before .before .before .before .before .before .before .before .loop2 in
-    let e = c .before .before .before .before .before .before .before .before .before .before .before .before .block-end .result in
-    let m = first-mark (a .args .self) (a .args .t .now) (a .args .s .now) (a .args .at) (l .x) e (l .w) (l .inv .0) (c .before .before .before .before .before .before .before .before .before .loop2-test .taken) in
-    let low = m .low in
-    let inside = m .inside in
-    let short = m .short in
-    let y = c .before .before .before .before .before .before .before .placed-at in
-    let z = c .before .before .before .before .before .before .at-mark in
-    let on = z .ensures .on in
-    let at : y .result .at ≡ l .x .at + trailingZeros 64 (l .w) = ap (λ (q : Walk). q .at) (y .ensures) in
-    let within = z .ensures .goes (a .args .at) (rw (y .ensures) (m .walking)) .within in
+    let within = behind-mark (c .before .before .before .before .before .before) .within in
+    let on = c .before .before .before .before .before .before .at-mark .ensures .on in
+    let at = at-is (c .before .before .before .before .before .before .before) in
     omega (arith, c .before .before .before .if2 .left)
 
 loop2-again : tie.Need-loop2-again Inv-loop2 μ-loop2 Inv-loop μ-loop
 loop2-again c =
-    let a = c .before .before .before .before .before .before .before .before .before .before .before .before .before .before .before .before .before .before in
+    let a = c .before .before .before .before .before .before .before .before .before .before .before .before .before .before .before .before .before .before .args in
     let l = c .before .before .before .before .before .before .before .before .before .before .loop2 in
     let e = c .before .before .before .before .before .before .before .before .before .before .before .before .block-end .result in
-    let m = first-mark (a .args .self) (a .args .t .now) (a .args .s .now) (a .args .at) (l .x) e (l .w) (l .inv .0) (c .before .before .before .before .before .before .before .before .before .loop2-test .taken) in
-    let low = m .low in
-    let inside = m .inside in
-    let short = m .short in
-    let y = c .before .before .before .before .before .before .before .placed-at in
+    let y = c .before .before .before .before .before .before .before .placed-at .result in
     let z = c .before .before .before .before .before .before .at-mark in
     let on = z .ensures .on in
-    let at : y .result .at ≡ l .x .at + trailingZeros 64 (l .w) = ap (λ (q : Walk). q .at) (y .ensures) in (
-      goes-on (a .args .self) (a .args .t .now) (a .args .s .now) (a .args .at) (l .x) e (l .w) (l .inv .0) (trailingZeros 64 (l .w)) (z .result .at - y .result .at) (c .shifted .result) (z .result)
-          (omega arith) (z .ensures .goes (a .args .at) (rw (y .ensures) (m .walking))) (c .shifted .ensures),
+    let at = at-is (c .before .before .before .before .before .before .before) in (
+      goes-on (a .self) (a .t .now) (a .s .now) (a .at) (l .x) e (l .w) (l .inv .0) (trailingZeros 64 (l .w)) (z .result .at - y .at) (c .shifted .result) (z .result)
+          (omega arith) (behind-mark (c .before .before .before .before .before .before)) (c .shifted .ensures),
       l .inv .1,
     )
 
