@@ -1,12 +1,11 @@
 // The check program: reads standard input as a strict file, through a buffer of 65,536 bytes, and
 // prints the eight house lines. It stops reading once the file is too long for good.
 use format::Answer;
-use pieces::Check;
 
 fn main() {
     let mut space = io::large_buffer();
     let buffer: &mut [u8] = &mut space;
-    let mut check = Check::start(b',', 0);
+    let mut check = pieces::start(b',', 0);
     let mut total: usize = 0;
     while total <= format::FILE_LIMIT as usize {
         let got = libc::read(0, buffer);
@@ -18,10 +17,10 @@ fn main() {
         if n == 0 {
             break;
         }
-        check = check.feed(&buffer[..n]);
+        check = pieces::feed(check, &buffer[..n]);
         total += n;
     }
-    print(check.ask());
+    print(pieces::ask(check));
 }
 
 // A read error is no end of file: nothing on standard output, one line on standard error.

@@ -4,7 +4,6 @@
 // output, with which this is compared, has the paper's values.
 use format::Answer;
 use format::Written;
-use pieces::Check;
 
 fn main() {
     accepted_files();
@@ -71,7 +70,7 @@ fn strict(name: &[u8], file: &[u8]) {
         name,
         b"strict",
         answer,
-        Check::start(b',', 0).feed(file).ask(),
+        pieces::ask(pieces::feed(pieces::start(b',', 0), file)),
     );
 }
 
@@ -84,7 +83,7 @@ fn lenient(name: &[u8], file: &[u8], dialect: &[u8], leniencies: u8) {
         name,
         dialect,
         answer,
-        Check::start(b',', leniencies).feed(file).ask(),
+        pieces::ask(pieces::feed(pieces::start(b',', leniencies), file)),
     );
 }
 

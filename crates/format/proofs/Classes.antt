@@ -184,6 +184,15 @@ unmarked false false true l e = absurd (true≢false e)
 unmarked false false false true e = absurd (true≢false e)
 unmarked false false false false e = (refl, refl, refl, refl)
 
+-- every dialect has a byte of text
+pub some-text : (d : Dialect) → (b : ℕ) × (classOf d b ≡ text)
+unfolding classOf
+some-text d = go (eqb 0x21 (d .delimiterByte)) refl
+  where
+    go : (x : Bool) → eqb 0x21 (d .delimiterByte) ≡ x → (b : ℕ) × (classOf d b ≡ text)
+    go true e = (0x23, rw (← eqb-true 0x21 (d .delimiterByte) e))
+    go false e = (0x21, rw e)
+
 -- what a byte that is not forbidden may stand in: bare, where it is no mark; between quotes, where it is no quote
 module _ (d : Dialect) (b : ℕ) (held : classOf d b ≡ forbidden → ⊥) where
   pub bare-byte : isMark d b ≡ false → (classOf d b ≡ text) ⊎ (classOf d b ≡ blank)
@@ -225,6 +234,15 @@ quoted-class CR n m = tt
 quoted-class LF n m = tt
 quoted-class forbidden n m = m refl
 
+-- CR and LF may, each as itself or as the delimiter
+pub CR-inside : (d : Dialect) → quotedClass (classOf d 0x0D) ≡ true
+unfolding classOf
+CR-inside d = decide (λ x. quotedClass x ≡ true) (eqb 0x0D (d .delimiterByte)) (λ e. refl) (λ e. refl)
+
+pub LF-inside : (d : Dialect) → quotedClass (classOf d 0x0A) ≡ true
+unfolding classOf
+LF-inside d = decide (λ x. quotedClass x ≡ true) (eqb 0x0A (d .delimiterByte)) (λ e. refl) (λ e. refl)
+
 -- a content with no blank at either end
 pub unpadded : (d : Dialect) (b : ℕ) (c : Content) → droppable d b ≡ false → droppable d (lastOf b c) ≡ false → padded d (b ∷ c) ≡ false
 unfolding padded
@@ -262,6 +280,18 @@ not-printable b e l h = true≢false (rw (le-leb 0x21 b l, le-leb b 0x7E h) at e
 
 printable-not-wide : (b : ℕ) → isPrintable b ≡ true → isWide b ≡ false
 printable-not-wide b e = let (l, h) = printable b e in rw (ne-eqb b 0x09 (omega arith), lt-leb 0x80 b (omega arith))
+
+-- 0x20 to 0x7E, but for the quote, may stand alone between quotes
+pub printed-inside : (d : Dialect) (b : ℕ) → 0x20 ≤ b → b ≤ 0x7E → (b ≡ 0x22 → ⊥) → quotedClass (classOf d b) ≡ true
+unfolding classOf
+printed-inside d b l h other =
+    let P : Class → Type 0 = λ x. quotedClass x ≡ true in
+    decide P (eqb b (d .delimiterByte)) (λ e. refl) λ e₁.
+    decide P (eqb b 0x22) (λ e. absurd (other (eqb-true b 0x22 e))) λ e₂.
+    decide P (eqb b 0x0D) (λ e. refl) λ e₃.
+    decide P (eqb b 0x0A) (λ e. refl) λ e₄.
+    decide P (eqb b 0x20) (λ e. decide P (d .allows blanks) (λ k. refl) (λ k. refl)) λ e₅.
+    decide P (isPrintable b) (λ e. refl) λ e₆. absurd (not-printable b e₆ (omega (arith, eqb-false b 0x20 e₅)) h)
 
 -- where "bytes" is off, such a byte is forbidden
 pub not-wide : (d : Dialect) (b : ℕ) → d .allows bytes ≡ false → (classOf d b ≡ forbidden → ⊥) → wide d b ≡ false

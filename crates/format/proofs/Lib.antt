@@ -2,9 +2,11 @@ pub mod Classes
 pub mod Demand3
 pub mod Dialects
 pub mod Ended
+pub mod Even
 pub mod Filling
 pub mod First
 pub mod Forms
+pub mod Grow
 pub mod Held
 pub mod Holding
 pub mod Length

@@ -4,7 +4,7 @@ use Prim.Native.Nat.{ℕ, zero, suc, _+_, _-_, _≤_, _<_}
 use native.Mathlib.Numerals.{add-one}
 use native.Mathlib.Omega.{arith}
 use mathlib.Core.Path.{_≡_, refl, sym, ap, _∙_}
-use mathlib.Core.List.{List, [], _∷_, _++_, append-assoc, flatten, map}
+use mathlib.Core.List.{List, [], _∷_, _++_, append-assoc, append-nil, flatten, map}
 use lib.ListN.{length, take, drop, getD, length-append, take-append-drop, drop-of-length-le}
 use lib.Seq.{slice, drop-cons, length-slice, length-take-le, take-nil, take-all, take-at, drop-at, drop-nil, drop-length, drop-append-le, getD-take, getD-drop}
 use Rattle.format.specs.Table.{Bytes, Table, Every, lastOf}
@@ -14,6 +14,15 @@ use Rattle.format.specs.Memory.{lengths, textOf, endsOf, rowsOf, Ordered
 pub rising-never-falls : (n : ℕ) (ms : List ℕ) → Ordered _<_ n ms → Ordered _≤_ n ms
 rising-never-falls n [] r = tt
 rising-never-falls n (m ∷ ms) r = (omega arith, rising-never-falls m ms (r .1))
+
+-- the last number, one after the other
+pub last-nil : (n : ℕ) → lastOf n [] ≡ n
+unfolding lastOf
+last-nil n = refl
+
+pub last-first : (n m : ℕ) (ms : List ℕ) → lastOf n (m ∷ ms) ≡ lastOf m ms
+unfolding lastOf
+last-first n m ms = refl
 
 pub last-above : (n : ℕ) (ms : List ℕ) → Ordered _≤_ n ms → n ≤ lastOf n ms
 unfolding lastOf
@@ -34,7 +43,32 @@ entry-within n [] k u h = absurd (omega arith)
 entry-within n (m ∷ ms) zero u h = (u .0, last-above m ms (u .1))
 entry-within n (m ∷ ms) (suc k) u h = entry-within m ms k (u .1) (omega arith)
 
+pub lengths-none : (A : Type 0) (n : ℕ) → lengths {A = A} n [] ≡ []
+unfolding lengths
+lengths-none A n = refl
+
 module _ {A : Type 0} where
+  pub lengths-more : (n : ℕ) (l : List A) (ls : List (List A)) → lengths n (l ∷ ls) ≡ (n + length l) ∷ lengths (n + length l) ls
+  unfolding lengths
+  lengths-more n l ls = refl
+
+  -- what is joined grows at its end, and one list more has one length more
+  pub flatten-join : (p q : List (List A)) → flatten (p ++ q) ≡ flatten p ++ flatten q
+  unfolding flatten
+  flatten-join [] q = refl
+  flatten-join (l ∷ p) q = rw (flatten-join p q) (sym (append-assoc l (flatten p) (flatten q)))
+
+  pub flatten-one : (p : List (List A)) (l : List A) → flatten (p ++ (l ∷ [])) ≡ flatten p ++ l
+  unfolding flatten
+  flatten-one p l = flatten-join p (l ∷ []) ∙ ap (λ (r : List A). flatten p ++ r) (append-nil l)
+
+  pub lengths-one : (n : ℕ) (p : List (List A)) (l : List A) → lengths n (p ++ (l ∷ [])) ≡ lengths n p ++ ((n + length (flatten p) + length l) ∷ [])
+  unfolding lengths flatten
+  lengths-one n [] l = ap (λ (m : ℕ). m ∷ []) (omega arith)
+  lengths-one n (k ∷ p) l =
+      let z : n + length k + length (flatten p) ≡ n + (length k + length (flatten p)) = omega arith in
+      rw (lengths-one (n + length k) p l, length-append k (flatten p), z)
+
   pub length-lengths : (n : ℕ) (ls : List (List A)) → length (lengths n ls) ≡ length ls
   unfolding lengths
   length-lengths n [] = refl

@@ -43,14 +43,20 @@ unfolding lineFeeds
 lineFeeds-append [] r = omega arith
 lineFeeds-append (b ∷ s) r = rw (lineFeeds-append s r) (omega arith)
 
--- one byte more in front
-pub feeds-lf : (b : ℕ) (f : Bytes) → eqb b 0x0A ≡ true → lineFeeds (b ∷ f) ≡ 1 + lineFeeds f
+-- none, and one byte more in front
+pub feeds-nil : lineFeeds [] ≡ 0
 unfolding lineFeeds
-feeds-lf b f e = rw e
+feeds-nil = refl
+
+pub feeds-byte : (b : ℕ) (f : Bytes) → lineFeeds (b ∷ f) ≡ cond (eqb b 0x0A) 1 0 + lineFeeds f
+unfolding lineFeeds
+feeds-byte b f = refl
+
+pub feeds-lf : (b : ℕ) (f : Bytes) → eqb b 0x0A ≡ true → lineFeeds (b ∷ f) ≡ 1 + lineFeeds f
+feeds-lf b f e = rw (feeds-byte b f, e)
 
 pub feeds-other : (b : ℕ) (f : Bytes) → eqb b 0x0A ≡ false → lineFeeds (b ∷ f) ≡ lineFeeds f
-unfolding lineFeeds
-feeds-other b f e = rw e (omega arith)
+feeds-other b f e = rw (feeds-byte b f, e) (omega arith)
 
 -- without an LF it is all of them, and bytes before an LF do not count
 pub since-none : (f : Bytes) → lineFeeds f ≡ 0 → sinceLf f ≡ f

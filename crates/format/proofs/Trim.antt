@@ -10,6 +10,7 @@ use Rattle.format.specs.Dialect.{Dialect, text, blank, classOf}
 use Rattle.format.specs.Grammar.{Blanks, Bare, padded, Field}
 use Rattle.format.specs.Count.{blankCount, dropped}
 use Rattle.format.proofs.Classes.{droppable, text-unmarked, unpadded}
+use Rattle.format.proofs.Grow.{blanks-join}
 
 -- behind a byte that is kept: of the content c, what is left without the blanks at its end
 data Tail (d : Dialect) (c : Content) : Bytes → Bytes → Type 0 where
@@ -34,13 +35,9 @@ module _ {d : Dialect} where
   tail-of (Bare.text-byte k p) y = text-tail k (tail-of p y)
   tail-of (Bare.blank-byte k p) y = blank-tail k (tail-of p y)
 
-  join : {f g h : Bytes} → Blanks d f g → Blanks d g h → Blanks d f h
-  join Blanks.none y = y
-  join (Blanks.more k x) y = Blanks.more k (join x y)
-
   behind-blanks : {f g h : Bytes} {c : Content} → Blanks d f g → Field d g c h → Field d f c h
-  behind-blanks x (Field.bare w k n y) = Field.bare (join x w) k n y
-  behind-blanks x (Field.quoted w k y) = Field.quoted (join x w) k y
+  behind-blanks x (Field.bare w k n y) = Field.bare (blanks-join d x w) k n y
+  behind-blanks x (Field.quoted w k y) = Field.quoted (blanks-join d x w) k y
 
   trimmed : {f g h : Bytes} {c : Content} → Bare d f c g → Blanks d g h → (e : Content) × Field d f e h × (length e ≤ length c)
   unfolding padded

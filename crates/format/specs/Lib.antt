@@ -9,5 +9,6 @@ pub mod Place
 pub mod Reading
 pub mod Refusal
 pub mod Rfc4180
+pub mod SoFar
 pub mod Table
 pub mod Written

@@ -1,9 +1,2 @@
 pub mod Ahead
-pub mod Closing
-pub mod Fields
-pub mod Jumps
-pub mod Passing
-pub mod Quoted
-pub mod Refused
 pub mod Stands
-pub mod Words

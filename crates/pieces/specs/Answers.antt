@@ -9,8 +9,9 @@ use Rattle.format.specs.declared.Answer.{Answer, the-variants.Taken, the-varian
 use Rattle.format.specs.Table.{Bytes, Table}
 use Rattle.format.specs.Memory.{textOf}
 use Rattle.format.specs.Reading.{Accepted, Refused}
-use Rattle.pieces.specs.declared.Check.{Check}
-use Rattle.pieces.specs.Check.{started, fedAll, asked}
+use Rattle.state.specs.declared.Check.{Check}
+use Rattle.state.specs.Check.{started, fedAll}
+use Rattle.pieces.specs.Asked.{asked}
 
 -- what a table comes to, with its report
 abbrev pub totalsOf : Table → ℕ → Totals

@@ -1,3 +1,2 @@
 pub mod Answers
-pub mod Check
-pub mod Walk
+pub mod Asked

@@ -1,8 +1,3 @@
 pub mod Calls
-pub mod Content
-pub mod Copy
-pub mod Fields
-pub mod Flow
+pub mod Last
 pub mod Outcomes
-pub mod Quoted
-pub mod Walk

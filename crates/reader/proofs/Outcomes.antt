@@ -8,17 +8,16 @@ use Rattle.format.specs.declared.Totals.{Totals}
 use Rattle.format.specs.declared.Answer.{Answer, the-variants.Taken, the-variants.Declined}
 use Rattle.format.specs.Table.{Bytes, Table}
 use Rattle.format.specs.Dialect.{dialect}
-use Rattle.format.specs.House.{fileLimit}
 use Rattle.format.specs.Place.{place}
 use Rattle.format.specs.Reading.{Accepted}
 use Rattle.format.specs.Memory.{textOf, endsOf, rowsOf}
 use Rattle.steps.proofs.Verdicts.{reading-taken}
 use Rattle.format.proofs.Memory.{length-lengths}
 use Rattle.pieces.specs.Answers.{Answers, accepted, refused}
-use Rattle.reader.specs.Fill.{textIn, endsIn, rowsIn}
+use Rattle.fill.specs.Fill.{textIn, endsIn, rowsIn}
 use Rattle.format.specs.Filling.{over}
 use Rattle.reader.specs.Read.{NoRoom, no-text, no-ends, no-rows, Outcome}
-use Rattle.reader.proofs.Flow.{filled}
+use Rattle.fill.proofs.Flow.{filled}
 
 -- what the second walk has to write is the table
 pub record Walked (b sum : ℕ) (f : Bytes) (t : Table) : Type 0 where
@@ -35,11 +34,10 @@ walked {b} {sum} {f} {t} a =
 -- the second walk has room
 pub has-room :
     {b sum : ℕ} {f : Bytes} {s : Totals} {x y z : ℕ} → Answers b sum f (Taken s) → s .text ≤ x → s .fields .0 ≤ y → s .records ≤ z
-    → (length f ≤ fileLimit) × (length (textIn (dialect b sum) f) ≤ x)
-    × (length (endsIn (dialect b sum) f) ≤ y) × (length (rowsIn (dialect b sum) f) ≤ z)
+    → (length (textIn (dialect b sum) f) ≤ x) × (length (endsIn (dialect b sum) f) ≤ y) × (length (rowsIn (dialect b sum) f) ≤ z)
 has-room (accepted {t} h) i j k =
     let w = walked h in
-    (h .short, rw (w .text-is) i, rw (w .ends-is, length-lengths 0 (flatten t)) j, rw (w .rows-is, length-lengths 0 t) k)
+    (rw (w .text-is) i, rw (w .ends-is, length-lengths 0 (flatten t)) j, rw (w .rows-is, length-lengths 0 t) k)
 
 pub accepts-it : {b sum : ℕ} {f : Bytes} {a : Answer} {s : Totals} → a ≡ Taken s → Answers b sum f a → Answers b sum f (Taken s)
 accepts-it {b} {sum} {f} e h = subst (Answers b sum f) e h

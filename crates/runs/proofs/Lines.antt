@@ -2,7 +2,8 @@
 use Prim.Native.Nat.{ℕ, suc, _+_, _-_, _≤_, _<_}
 use native.Mathlib.Numerals.{add-one}
 use native.Mathlib.Omega.{arith}
-use mathlib.Core.Path.{_≡_, sym, ap, _∙_}
+use mathlib.Core.Path.{_≡_, refl, sym, ap, _∙_}
+use mathlib.Core.Bool.{false}
 use mathlib.Core.List.{[], _∷_, _++_}
 use lib.Dec.{eqb}
 use lib.ListN.{length, getD, take, drop, drop-of-length-le, length-drop, take-append-drop}
@@ -10,21 +11,20 @@ use lib.Seq.{drop-cons, drop-drop}
 use borrow.Author.Tests.{ne-eqb}
 use Rattle.format.specs.Table.{Bytes}
 use Rattle.format.specs.Place.{lineFeeds, sinceLf}
-use Rattle.format.proofs.Places.{lineFeeds-append, sinceLf-append, since-none}
+use Rattle.format.proofs.Places.{lineFeeds-append, feeds-nil, feeds-byte, feeds-lf, sinceLf-append, since-none, since-on}
 use Rattle.runs.specs.Words.{bit}
 
 pub feeds-more : (s : Bytes) (i : ℕ) → i < length s → lineFeeds (drop i s) ≡ bit (eqb (getD s i 0) 0x0A) + lineFeeds (drop (i + 1) s)
-unfolding lineFeeds
-feeds-more s i h = rw (add-one, drop-cons s i 0)
+feeds-more s i h = rw (add-one, drop-cons s i 0, feeds-byte (getD s i 0) (drop (suc i) s))
 
 pub feeds-none : (s : Bytes) (i : ℕ) → length s ≤ i → lineFeeds (drop i s) ≡ 0
-unfolding lineFeeds
-feeds-none s i h = rw (drop-of-length-le s h)
+feeds-none s i h = rw (drop-of-length-le s h, feeds-nil)
 
 -- such bytes behind an LF
 since-behind : (a f : Bytes) → lineFeeds f ≡ 0 → sinceLf (a ++ (0x0A ∷ f)) ≡ f
-unfolding lineFeeds sinceLf
-since-behind a f e = sinceLf-append a (0x0A ∷ f) ∙ rw e (since-none f e)
+since-behind a f e =
+    let some : eqb (lineFeeds (0x0A ∷ f)) 0 ≡ false = rw (feeds-lf 0x0A f refl, e) in
+    sinceLf-append a (0x0A ∷ f) ∙ rw (some, since-on 0x0A f some) (since-none f e)
 
 parted : (s : Bytes) (a b : ℕ) → a ≤ b → drop a s ≡ take (b - a) (drop a s) ++ drop b s
 parted s a b h =

@@ -6,11 +6,11 @@ use mathlib.Core.Path.{_≡_, refl, sym, ap, _∙_}
 use mathlib.Core.Bool.{Bool, true, false, cond, _&&_, and-false, false≢true}
 use mathlib.Core.List.{[], _∷_}
 use lib.ListN.{length, getD, drop, drop-of-length-le, length-drop}
-use borrow.Author.Tests.{ne-eqb, leb-true, leb-false, le-leb}
+use borrow.Author.Tests.{ne-eqb, eqb-true, leb-true, leb-false, le-leb}
 use lib.Dec.{eqb, leb}
 use lib.Seq.{drop-cons, drop-drop, getD-drop}
 use Rattle.format.specs.Table.{Bytes}
-use Rattle.runs.specs.Runs.{run, pairs}
+use Rattle.runs.specs.Runs.{run, pairs, isBreak}
 
 module _ (p : ℕ → Bool) where
   pub run-more : (s : Bytes) (i : ℕ) → i < length s → p (getD s i 0) ≡ true → run p (drop i s) ≡ suc (run p (drop (i + 1) s))
@@ -33,6 +33,25 @@ run-le p (b ∷ f) = go (p b) (run-le p f)
     go : (x : Bool) → run p f ≤ length f → cond x (suc (run p f)) 0 ≤ suc (length f)
     go true h = omega arith
     go false h = omega arith
+
+-- a run that begins with a byte
+pub run-first : (p : ℕ → Bool) (b m : ℕ) (f : Bytes) → suc m ≤ run p (b ∷ f) → (p b ≡ true) × (m ≤ run p f)
+unfolding run
+run-first p b m f = go (p b)
+  where
+    go : (x : Bool) → suc m ≤ cond x (suc (run p f)) 0 → (x ≡ true) × (m ≤ run p f)
+    go true h = (refl, omega arith)
+    go false h = absurd (omega arith)
+
+-- pairs that begin with two bytes
+pub pairs-first : (a b m : ℕ) (f : Bytes) → suc m ≤ pairs (a ∷ (b ∷ f)) → (a ≡ 0x22) × (b ≡ 0x22) × (m ≤ pairs f)
+unfolding pairs
+pairs-first a b m f = go (eqb a 0x22) (eqb b 0x22) refl refl
+  where
+    go : (x y : Bool) → eqb a 0x22 ≡ x → eqb b 0x22 ≡ y → suc m ≤ cond (x && y) (suc (pairs f)) 0 → (a ≡ 0x22) × (b ≡ 0x22) × (m ≤ pairs f)
+    go true true p q h = (eqb-true a 0x22 p, eqb-true b 0x22 q, omega arith)
+    go true false p q h = absurd (omega arith)
+    go false y p q h = absurd (omega arith)
 
 pub pairs-le : (f : Bytes) → pairs f + pairs f ≤ length f
 unfolding pairs
@@ -233,3 +252,36 @@ run-join p s b i k from h l =
 -- a run ends within its part
 pub run-within : (p : ℕ → Bool) (s : Bytes) (i k : ℕ) → i ≤ length s → k ≤ run p (drop i s) → i + k ≤ length s
 run-within p s i k h l = omega (arith, run-le p (drop i s), length-drop i s)
+
+-- a line break at a place
+pub record BreakAt (s : Bytes) (at : ℕ) : Type 0 where
+  pub inside : at + 1 < length s
+  pub first : getD s at 0 ≡ 0x0D
+  pub second : getD s (at + 1) 0 ≡ 0x0A
+
+pub break-two : (s : Bytes) (i : ℕ) → i + 1 < length s → isBreak (drop i s) ≡ (eqb (getD s i 0) 0x0D && eqb (getD s (i + 1) 0) 0x0A)
+unfolding isBreak
+break-two s i h = rw (add-one i, drop-cons s i 0 (omega arith), drop-cons s (suc i) 0 (omega arith))
+
+break-short : (f : Bytes) → length f ≤ 1 → isBreak f ≡ false
+unfolding isBreak
+break-short [] h = refl
+break-short (a ∷ []) h = refl
+break-short (a ∷ (b ∷ f)) h = absurd (omega arith)
+
+pub break-end : (s : Bytes) (i : ℕ) → length s ≤ i + 1 → isBreak (drop i s) ≡ false
+break-end s i h = break-short (drop i s) (rw (length-drop i s) (omega arith))
+
+-- where is_break says so, there is one, and only there
+pub break-at : (s : Bytes) (i : ℕ) → isBreak (drop i s) ≡ true → BreakAt s i
+break-at s i e = by (leb (length s) (i + 1)) refl
+  where
+    by : (x : Bool) → leb (length s) (i + 1) ≡ x → BreakAt s i
+    by true q = absurd (false≢true (sym (break-end s i (leb-true (length s) (i + 1) q)) ∙ e))
+    by false q =
+        let l : i + 1 < length s = leb-false (length s) (i + 1) q in
+        let b = and-both (eqb (getD s i 0) 0x0D) (eqb (getD s (i + 1) 0) 0x0A) (sym (break-two s i l) ∙ e) in
+        record { inside = l; first = eqb-true (getD s i 0) 0x0D (b .0); second = eqb-true (getD s (i + 1) 0) 0x0A (b .1) }
+
+pub break-is : (s : Bytes) (i : ℕ) → BreakAt s i → isBreak (drop i s) ≡ true
+break-is s i h = break-two s i (h .inside) ∙ rw (h .first, h .second)

@@ -33,3 +33,9 @@ unfoldable pub pairs : Bytes → ℕ
 pairs [] = 0
 pairs (a ∷ []) = 0
 pairs (a ∷ (b ∷ f)) = cond (eqb a 0x22 && eqb b 0x22) (suc (pairs f)) 0
+
+-- whether a CR and an LF stand at the front
+unfoldable pub isBreak : Bytes → Bool
+isBreak [] = false
+isBreak (a ∷ []) = false
+isBreak (a ∷ (b ∷ f)) = eqb a 0x0D && eqb b 0x0A

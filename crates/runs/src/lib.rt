@@ -8,7 +8,7 @@ ghost use lib.Dec.{leb};
 ghost use lib.ListN.{length, getD, take, drop};
 ghost use Rattle.format.specs.Dialect.{dialect};
 ghost use Rattle.format.specs.Place.{lineFeeds, sinceLf};
-ghost use Rattle.runs.specs.Runs.{run, isPlain, isInner, pairs};
+ghost use Rattle.runs.specs.Runs.{run, isPlain, isInner, pairs, isBreak};
 ghost use Rattle.runs.specs.Words.{bit, word, blockEnd, Marks, Stops};
 
 // Whether b is plain text in the dialect of any two bytes.
@@ -157,6 +157,22 @@ pub fn pair_run(s: &[u8], from: usize) -> usize
         n += 32;
     }
     pairs_on(s, i, n)
+}
+
+// Whether a CR and an LF stand at a place.
+pub fn is_break(s: &[u8], at: usize) -> bool
+    ensures { λ r. ⌜ r ≡ isBreak (drop at (now (s .entry))) ⌝ }
+{
+    if s.len() < 2 {
+        return false;
+    }
+    if s.len() - 2 < at {
+        return false;
+    }
+    if s[at] != 0x0D {
+        return false;
+    }
+    s[at + 1] == 0x0A
 }
 
 // The word of 4 bytes by a table of marks, the first byte lowest: a short chain, of which a processor runs

@@ -4,7 +4,7 @@ use mathlib.Core.Path.{_≡_, sym, ap, _∙_}
 use mathlib.Core.List.{List}
 use Rattle.format.specs.Table.{Bytes}
 use Rattle.format.specs.Answer.{readerNumbers}
-use Rattle.pieces.specs.declared.Check.{Check}
+use Rattle.state.specs.declared.Check.{Check}
 use Rattle.reader.proofs.Calls.{one-outcome}
 use Rattle.tables.specs.Search.{Searched}
 use Rattle.tables.specs.Shown.{Located}

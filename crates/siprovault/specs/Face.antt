@@ -10,7 +10,7 @@ use Rattle.siprovault.specs.declared.SvPart.{SvPart}
 use Rattle.format.specs.declared.Answer.{Answer}
 use Rattle.format.specs.Table.{Bytes}
 use Rattle.format.specs.Answer.{readerNumbers}
-use Rattle.pieces.specs.declared.Check.{Check}
+use Rattle.state.specs.declared.Check.{Check}
 use Rattle.pieces.specs.Answers.{Asked}
 use Rattle.reader.specs.Read.{Outcome}
 

@@ -11,7 +11,7 @@ use format::Answer;
 use format::Found;
 use format::Part;
 use format::Written;
-use pieces::Check;
+use state::Check;
 
 #[repr(C)]
 pub struct SvAnswer {
@@ -82,7 +82,7 @@ pub extern "C" fn sv_read_strict(
 pub extern "C" fn sv_check_start(delimiter: u8, leniencies: u8) -> Check
     ensures { λ r. ⌜ Started delimiter leniencies r ⌝ }
 {
-    Check::start(delimiter, leniencies)
+    pieces::start(delimiter, leniencies)
 }
 
 // Feeds a check a piece, and gives the state behind it.
@@ -90,7 +90,7 @@ pub extern "C" fn sv_check_start(delimiter: u8, leniencies: u8) -> Check
 pub extern "C" fn sv_check_feed(state: Check, piece: &[u8]) -> Check
     ensures { λ r. ⌜ Fed state (now (piece .entry)) r ⌝ }
 {
-    state.feed(piece)
+    pieces::feed(state, piece)
 }
 
 // Asks a check for the answer to all bytes so far as a whole file.
@@ -98,7 +98,7 @@ pub extern "C" fn sv_check_feed(state: Check, piece: &[u8]) -> Check
 pub extern "C" fn sv_check_ask(state: Check) -> SvAnswer
     ensures { λ r. ⌜ Asks state (answerNumbers r) ⌝ }
 {
-    answered(state.ask())
+    answered(pieces::ask(state))
 }
 
 // Writes a table as a strict file, plain in mode 0 and full in mode 1.

@@ -13,6 +13,7 @@ use Rattle.format.specs.Count.{blankCount, dropped, alone}
 use Rattle.format.proofs.Classes.{droppable, blank-unmarked, unpadded-ends, quoted-class, quotedClass}
 use Rattle.steps.specs.Steps.{Form, start, lead, bare, quoted, shut, tail, cr, stepOf}
 use Rattle.steps.specs.Model.{Cell, cell, Trace, refused, last, field, line, change, putting, dropping, keptIn, holding, ending, doing, run}
+use Rattle.steps.proofs.Acts.{over, stops}
 
 -- a place where a field may be over: the end, a delimiter, CR, LF or a forbidden byte
 pub data Stops (d : Dialect) : Bytes → Type 0 where
@@ -40,26 +41,7 @@ nil-ending : (l : ℕ) (a f : Bytes) (r : Trace) → ending l a f r ≡ set (cel
 nil-ending l a [] r = refl
 nil-ending l a (b ∷ f) r = refl
 
--- the forms in which a field may be over, and the classes at which it may
-abbrev pub over : Form → Bool
-over start = true
-over lead = true
-over bare = true
-over quoted = false
-over shut = true
-over tail = true
-over cr = false
-
-abbrev stops : Class → Bool
-stops text = false
-stops blank = false
-stops delimiter = true
-stops quote = false
-stops CR = true
-stops LF = true
-stops forbidden = true
-
--- there these forms are one
+-- where a field may be over its forms are one
 alike :
     (k : Form) → T (over k) → (x : Class) → T (stops x) → (y : Bool) (b : ℕ) (f p : Bytes) (r : Form → Bytes → Trace)
     → doing (stepOf y k x) k b f p r ≡ doing (stepOf y tail x) tail b f [] r

@@ -2,8 +2,11 @@ pub mod Acts
 pub mod Cases
 pub mod Complete
 pub mod Faults
+pub mod Forms
+pub mod Forward
 pub mod Limits
 pub mod Numbers
+pub mod One
 pub mod Rules
 pub mod Sound
 pub mod Tallies

@@ -109,9 +109,14 @@ module _ (d : Dialect) where
   unfolding run agrees fits
   empty-taken = refl
 
-  empty-read : read d any [] ≡ taken [] 0 0
+  -- no bytes are no record; and else the first record begins at once
+  pub read-none : (w : Width) → read d w [] ≡ taken [] 0 0
   unfolding read
-  empty-read = refl
+  read-none w = refl
+
+  pub read-some : (w : Width) (b : ℕ) (f : Bytes) → read d w (b ∷ f) ≡ judge d w 0 (b ∷ f) (run d (b ∷ f) start [])
+  unfolding read
+  read-some w b f = refl
 
   -- a record that fits
   abbrev closes : Width → ℕ → List Content → ℕ → ℕ → Bytes → Judged → Judged
@@ -147,9 +152,8 @@ module _ (d : Dialect) where
   fit-first {f} {cs} w r e t = rw (count-is cs) at (fit-record w 0 f r e t)
 
   begun-read : {f g h : Bytes} {cs : List Content} (w : Width) → Record d f cs g → Break d g h → read d w f ≡ judge d w 0 f (run d f start [])
-  unfolding read
   begun-read {f = []} w r k = absurd (break-nil k (record-nil r))
-  begun-read {f = b ∷ f} w r k = refl
+  begun-read {f = b ∷ f} w r k = read-some w b f
 
 -- what the rules ask of a table whose first record is to agree with a width
 abbrev pub Fine : Dialect → Width → Table → Type 0
@@ -299,7 +303,7 @@ module _ {d : Dialect} where
 
   nothing-wrong : {n : ℕ} {w : Width} {found named : Bytes} → Refuses d w n [] found named → ⊥
   nothing-wrong (here (in-record r t x)) =
-      let z : _≡_ {A = ℕ} 0 1 = cc (record-declined any r t x, empty-read d) in
+      let z : _≡_ {A = ℕ} 0 1 = cc (record-declined any r t x, read-none d any) in
       omega arith
   nothing-wrong (later r k t u x) = break-nil d k (record-nil d r)
 

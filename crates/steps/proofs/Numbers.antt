@@ -1,14 +1,14 @@
 -- Forms and classes by their numbers.
 use Prim.Native.Nat.{ℕ, zero, suc, min, _≤_}
-use mathlib.Core.Path.{_≡_, refl, sym}
+use mathlib.Core.Path.{_≡_, refl, sym, _∙_}
 use mathlib.Core.Bool.{_&&_, _||_}
-use native.Mathlib.Nat.{min-eq-right}
+use native.Mathlib.Nat.{min-eq-left, min-eq-right}
 use native.Mathlib.Omega.{arith}
 use lib.Dec.{eqb, leb}
 use borrow.Author.Tests.{ne-eqb, le-leb}
 use Rattle.format.specs.Dialect.{Class, text, blank, delimiter, quote, CR, LF, forbidden}
 use Rattle.format.proofs.Classes.{marks}
-use Rattle.steps.specs.Steps.{inQuotes, behindCr, isBlank}
+use Rattle.steps.specs.Steps.{Form, start, lead, bare, quoted, shut, tail, cr, inQuotes, behindCr, isBlank}
 use Rattle.steps.specs.Numbers.{formNumber, classNumber, formOf, classFrom}
 
 abbrev six+ : ℕ → ℕ
@@ -29,6 +29,9 @@ pub form-at : (n : ℕ) → formNumber (formOf n) ≡ min n 6
 unfolding formOf
 form-at = by-number (λ n. formNumber (formOf n) ≡ min n 6) refl refl refl refl refl refl (λ n. sym (min-eq-right (omega arith)))
 
+pub form-number : (n : ℕ) → n ≤ 6 → formNumber (formOf n) ≡ n
+form-number n h = form-at n ∙ min-eq-left h
+
 pub class-at : (n : ℕ) → classNumber (classFrom n) ≡ min n 6
 unfolding classFrom
 class-at = by-number (λ n. classNumber (classFrom n) ≡ min n 6) refl refl refl refl refl refl (λ n. sym (min-eq-right (omega arith)))
@@ -42,6 +45,9 @@ quotes-at =
 pub cr-at : (n : ℕ) → behindCr (formOf n) ≡ leb 6 n
 unfolding formOf
 cr-at = by-number (λ n. behindCr (formOf n) ≡ leb 6 n) refl refl refl refl refl refl (λ n. sym (le-leb 6 (six+ n) (omega arith)))
+
+pub behind-number : (k : Form) → leb 6 (formNumber k) ≡ behindCr k
+behind-number = elim [ start ↦ refl | lead ↦ refl | bare ↦ refl | quoted ↦ refl | shut ↦ refl | tail ↦ refl | cr ↦ refl ]
 
 pub blank-at : (n : ℕ) → isBlank (classFrom n) ≡ eqb n 1
 unfolding classFrom

@@ -4,17 +4,18 @@ use native.Mathlib.Nat.{zero-add, add-zero, suc-add}
 use native.Mathlib.Numerals.{add-one}
 use native.Mathlib.Omega.{arith}
 use mathlib.Core.Path.{_≡_, refl, sym, ap, _∙_}
-use mathlib.Core.Bool.{Bool, true, false, cond, not, _||_, or-false}
+use mathlib.Core.Bool.{Bool, true, false, cond, not, _||_, or-true, or-false}
 use mathlib.Core.List.{List, [], _∷_, _++_, flatten}
 use lib.Dec.{eqb, leb, eqb·suc-zero}
 use lib.ListN.{length, length-append}
 use Rattle.format.specs.Table.{Bytes, Content, Table}
-use Rattle.format.specs.Dialect.{Dialect}
+use Rattle.format.specs.Dialect.{ragged, Dialect}
 use Rattle.format.specs.House.{differs, contentLimit}
 use Rattle.format.specs.Count.{some}
+use Rattle.format.proofs.Classes.{decide}
 use Rattle.steps.specs.Model.{Cell, Trace, refused, last, field, line, Judged, declined, taken, Width, any, just, settled, agrees, beside, above, fits, judge}
 
--- what has been closed so far, and which leniencies were used, but "bytes", which the bytes alone tell
+-- what has been closed so far; and which leniencies were used, but "bytes", which the bytes alone tell
 pub record Sums : Type 0 where
   pub records : ℕ
   pub fields : ℕ
@@ -25,6 +26,23 @@ pub record Flags : Type 0 where
   pub blanks : Bool
   pub ragged : Bool
 
+-- the account where a field begins: the width of the first record, 0 before its end; the fields before in the record; the field's place; sums and flags
+pub record Account : Type 0 where
+  pub width : ℕ
+  pub number : ℕ
+  pub start : Bytes
+  pub sums : Sums
+  pub flags : Flags
+
+-- a field in work: its account, the bytes of its content so far, and the blanks held behind them
+pub record Work : Type 0 where
+  pub account : Account
+  pub content : ℕ
+  pub held : ℕ
+
+abbrev pub fresh : Account → Work
+fresh a = record { account = a; content = 0; held = 0 }
+
 -- the width of the first record, 0 before its end
 abbrev pub widthOf : ℕ → Width
 widthOf zero = any
@@ -34,10 +52,18 @@ widthOf (suc n) = just (suc n)
 abbrev pub even : ℕ → ℕ → Bool
 even z n = eqb z 0 || eqb n z
 
--- an answer: a refusal with its place, or sums and flags
-pub data Ans : Type 0 where
-  stop : ℕ → Bytes → Ans
-  sums : Sums → Flags → Ans
+-- a refusal with its place, or what there is without one
+pub data Ans (A : Type 0) : Type 0 where
+  stop : ℕ → Bytes → Ans A
+  gives : A → Ans A
+
+-- what an account comes to at the end of a file
+pub record Total : Type 0 where
+  pub sums : Sums
+  pub flags : Flags
+
+abbrev pub closed : Account → Ans Total
+closed a = gives (record { sums = a .sums; flags = a .flags })
 
 -- a field of m bytes and h blanks held, whose rest is the cell x: how long its content is, whether it drops a blank
 abbrev pub full : ℕ → ℕ → Content → ℕ
@@ -57,42 +83,80 @@ addField s n = record { records = s .records; fields = s .fields + 1; text = s .
 abbrev pub addRecord : Sums → ℕ → Sums
 addRecord s n = record { records = s .records + 1; fields = s .fields + 1; text = s .text + n }
 
-abbrev pub flagBlanks : Bool → Flags → Flags
-flagBlanks x v = record { lf = v .lf; blanks = x || v .blanks; ragged = v .ragged }
-
 abbrev pub flagRecord : Bool → Bool → Bool → Flags → Flags
 flagRecord l x u v = record { lf = l || v .lf; blanks = x || v .blanks; ragged = u || v .ragged }
 
--- a field that ends its record at a: k is what follows
-abbrev pub lineUp : Dialect → ℕ → ℕ → Bytes → ℕ → Bytes → Ans → Ans
-lineUp d z j fr n a k = cond (leb n contentLimit) (cond (agrees d (widthOf z) (suc j)) k (stop 10 a)) (stop 9 fr)
+-- the account with another flag for blanks
+abbrev pub withBlanks : Bool → Account → Account
+withBlanks x a =
+    let v : Flags = record { lf = a .flags .lf; blanks = x; ragged = a .flags .ragged } in
+    record { width = a .width; number = a .number; start = a .start; sums = a .sums; flags = v }
 
--- what a trace comes to: z is the width, j the fields before in the record; the field began at fr, and has m bytes and h blanks held
-abbrev pub goes : Dialect → ℕ → ℕ → Bytes → ℕ → ℕ → Sums → Flags → Trace → Ans
-goes d z j fr m h s v (refused n a p) = stop n p
-goes d z j fr m h s v (last x l a) =
-    lineUp d z j fr (full m h (x .content)) a
-    (sums (addRecord s (full m h (x .content))) (flagRecord (some l) (dropsIn h x) (not (even z (suc j))) v))
-goes d z j fr m h s v (field x a g r) =
-    cond (leb (full m h (x .content)) contentLimit)
-    (goes d z (suc j) g 0 0 (addField s (full m h (x .content))) (flagBlanks (dropsIn h x) v) r)
-    (stop 9 fr)
-goes d z j fr m h s v (line x l a g r) =
-    lineUp d z j fr (full m h (x .content)) a
-    (goes d (cond (eqb z 0) (suc j) z) 0 g 0 0 (addRecord s (full m h (x .content))) (flagRecord (some l) (dropsIn h x) (not (even z (suc j))) v) r)
+-- the whole field, whose rest is the cell x
+abbrev pub whole : Work → Cell → Work
+whole w x =
+    record {
+      account = withBlanks (dropsIn (w .held) x || w .account .flags .blanks) (w .account);
+      content = full (w .content) (w .held) (x .content);
+      held = 0;
+    }
 
--- the sums and flags of what the model reads: the first record has j fields more
-abbrev pub tallied : ℕ → ℕ → Sums → Flags → Judged → Ans
-tallied z j s v (declined n a p) = stop n p
-tallied z j s v (taken [] m l) = sums s v
-tallied z j s v (taken (cs ∷ t) m l) =
-    sums
+-- a whole field ends, and the next one begins at g, in its record or, with l for an LF alone, in the next
+abbrev pub fieldOn : Bytes → Work → Account
+fieldOn g w =
+    let a = w .account in
+    record { width = a .width; number = suc (a .number); start = g; sums = addField (a .sums) (w .content); flags = a .flags }
+
+abbrev pub recordOn : Bool → Bytes → Work → Account
+recordOn l g w =
+    let a = w .account in
+    record {
+      width = cond (eqb (a .width) 0) (suc (a .number)) (a .width);
+      number = 0;
+      start = g;
+      sums = addRecord (a .sums) (w .content);
+      flags = flagRecord l false (not (even (a .width) (suc (a .number)))) (a .flags);
+    }
+
+-- the limits, where a whole field ends, and where it ends its record at p: k is what follows
+abbrev pub fieldUp : {A : Type 0} → Work → Ans A → Ans A
+fieldUp w k = cond (leb (w .content) contentLimit) k (stop 9 (w .account .start))
+
+abbrev pub recordUp : {A : Type 0} → Dialect → Work → Bytes → Ans A → Ans A
+recordUp d w p k = fieldUp w (cond (agrees d (widthOf (w .account .width)) (suc (w .account .number))) k (stop 10 p))
+
+-- what holds of a refusal by them and of what follows
+pub field-up : {A : Type 0} (P : Ans A → Type 0) (w : Work) (k : Ans A) → P k → P (stop 9 (w .account .start)) → P (fieldUp w k)
+field-up P w k x y = decide P (leb (w .content) contentLimit) (λ e. x) (λ e. y)
+
+pub record-up : {A : Type 0} (P : Ans A → Type 0) (d : Dialect) (w : Work) (p : Bytes) (k : Ans A) → P k → P (stop 10 p) → P (stop 9 (w .account .start)) → P (recordUp d w p k)
+record-up P d w p k x y z = field-up P w _ (decide P (agrees d (widthOf (w .account .width)) (suc (w .account .number))) (λ e. x) (λ e. y)) z
+
+-- a width agrees where it is even or need not be
+pub agrees-even : (d : Dialect) (z j : ℕ) → (d .allows ragged || even z (suc j)) ≡ agrees d (widthOf z) (suc j)
+unfolding agrees
+agrees-even d zero j = or-true (d .allows ragged)
+agrees-even d (suc z) j = rw (eqb·suc-zero z)
+
+-- what a trace comes to, from inside a field
+abbrev pub goes : Dialect → Work → Trace → Ans Total
+goes d w (refused n a p) = stop n p
+goes d w (last x l a) = recordUp d (whole w x) a (closed (recordOn (some l) [] (whole w x)))
+goes d w (field x a g r) = fieldUp (whole w x) (goes d (fresh (fieldOn g (whole w x))) r)
+goes d w (line x l a g r) = recordUp d (whole w x) a (goes d (fresh (recordOn (some l) g (whole w x))) r)
+
+-- the sums and flags of what the model reads: the first record has the account's number of fields more
+abbrev pub tallied : Account → Judged → Ans Total
+tallied a (declined n q p) = stop n p
+tallied a (taken [] m l) = closed a
+tallied a (taken (cs ∷ t) m l) =
+    let s = a .sums in
+    let n = a .number + length cs in
+    gives
     (record {
-      records = s .records + suc (length t);
-      fields = s .fields + length (flatten (cs ∷ t));
-      text = s .text + length (flatten (flatten (cs ∷ t)));
+      sums = record { records = s .records + suc (length t); fields = s .fields + length (flatten (cs ∷ t)); text = s .text + length (flatten (flatten (cs ∷ t))) };
+      flags = flagRecord (some l) (some m) (not (even (a .width) n) || differs (cond (eqb (a .width) 0) n (a .width)) t) (a .flags);
     })
-    (flagRecord (some l) (some m) (not (even z (j + length cs)) || differs (cond (eqb z 0) (j + length cs) z) t) v)
 
 -- the model judges of a trace that a record is there
 abbrev pub Some : Judged → Type 0
@@ -142,11 +206,11 @@ settled-width : (z j : ℕ) → settled (widthOf z) (suc j) ≡ widthOf (cond (e
 settled-width zero j = refl
 settled-width (suc z) j = rw (eqb·suc-zero z)
 
-same-sums : {a b c a′ b′ c′ : ℕ} {l x u l′ x′ u′ : Bool}
-    → a ≡ a′ → b ≡ b′ → c ≡ c′ → l ≡ l′ → x ≡ x′ → u ≡ u′
-    → sums (record { records = a; fields = b; text = c }) (record { lf = l; blanks = x; ragged = u })
-    ≡ sums (record { records = a′; fields = b′; text = c′ }) (record { lf = l′; blanks = x′; ragged = u′ })
-same-sums p q r e f g = λ i. sums (record { records = p i; fields = q i; text = r i }) (record { lf = e i; blanks = f i; ragged = g i })
+same-total :
+    {a b c a′ b′ c′ : ℕ} {l x u l′ x′ u′ : Bool} → a ≡ a′ → b ≡ b′ → c ≡ c′ → l ≡ l′ → x ≡ x′ → u ≡ u′
+    → _≡_ {A = Ans Total} (gives (record { sums = record { records = a; fields = b; text = c }; flags = record { lf = l; blanks = x; ragged = u } }))
+    (gives (record { sums = record { records = a′; fields = b′; text = c′ }; flags = record { lf = l′; blanks = x′; ragged = u′ } }))
+same-total p q r e f g = λ i. gives (record { sums = record { records = p i; fields = q i; text = r i }; flags = record { lf = e i; blanks = f i; ragged = g i } })
 
 -- sizes
 text-cons : (c : Content) (cs : List Content) (t : Table) → length (flatten (flatten ((c ∷ cs) ∷ t))) ≡ length c + length (flatten (flatten (cs ∷ t)))
@@ -157,9 +221,13 @@ fields-cons : (c : Content) (cs : List Content) (t : Table) → length (flatten 
 unfolding flatten
 fields-cons c cs t = refl
 
-skip-nil : (t : Table) → flatten ([] ∷ t) ≡ flatten t
+one-text : (c : Content) (t : Table) → length (flatten (flatten ((c ∷ []) ∷ t))) ≡ length c + length (flatten (flatten t))
 unfolding flatten
-skip-nil t = refl
+one-text c t = length-append c (flatten (flatten t))
+
+one-field : (c : Content) (t : Table) → length (flatten ((c ∷ []) ∷ t)) ≡ suc (length (flatten t))
+unfolding flatten
+one-field c t = refl
 
 pub or-swap : (x y v : Bool) → (x || (y || v)) ≡ ((y || x) || v)
 or-swap true true v = refl
@@ -167,20 +235,30 @@ or-swap true false v = refl
 or-swap false true v = refl
 or-swap false false v = refl
 
--- a field before a record
-tallied-beside :
-    (z j : ℕ) (s : Sums) (v : Flags) (x : Cell) (a : Judged) → Some a
-    → tallied z (suc j) (addField s (length (x .content))) (flagBlanks (some (x .drops)) v) a ≡ tallied z j s v (beside x a)
-tallied-beside z j s v x (declined n p q) o = refl
-tallied-beside z j s v x (taken (cs ∷ t) m l) o =
-    let e : suc j + length cs ≡ j + suc (length cs) = omega arith in
-    same-sums refl (omega (arith, fields-cons (x .content) cs t)) (omega (arith, text-cons (x .content) cs t)) refl
-    (or-swap (some m) (some (x .drops)) (v .blanks) ∙ ap (λ (b : Bool). b || v .blanks) (sym (some-plus (x .drops) m)))
-    (ap (λ (n : ℕ). (not (even z n) || differs (cond (eqb z 0) n z) t) || v .ragged) e)
+flag-twice : (k l : ℕ) (v : Bool) → (some k || (some l || v)) ≡ (some (l + k) || v)
+flag-twice k l v = or-swap (some k) (some l) v ∙ ap (λ (b : Bool). b || v) (sym (some-plus l k))
 
--- a width that is set
-even-set : (y n : ℕ) → even (suc y) n ≡ eqb n (suc y)
-even-set y n = rw (eqb·suc-zero y)
+-- the whole field, if x is all of it
+abbrev counted : Account → Cell → Work
+counted a x = record { account = withBlanks (some (x .drops) || a .flags .blanks) a; content = length (x .content); held = 0 }
+
+pub same-whole :
+    (a : Account) {x y : Bool} {m n : ℕ} → x ≡ y → m ≡ n
+    → _≡_ {A = Work} (record { account = withBlanks x a; content = m; held = 0 }) (record { account = withBlanks y a; content = n; held = 0 })
+same-whole a p q = λ i. record { account = withBlanks (p i) a; content = q i; held = 0 }
+
+whole-fresh : (a : Account) (x : Cell) → whole (fresh a) x ≡ counted a x
+whole-fresh a x = same-whole a (ap (λ (b : Bool). b || a .flags .blanks) (drops-none x)) (full-none (x .content))
+
+-- a field before a record
+tallied-beside : (a : Account) (g : Bytes) (x : Cell) (r : Judged) → Some r → tallied (fieldOn g (counted a x)) r ≡ tallied a (beside x r)
+tallied-beside a g x (declined n p q) o = refl
+tallied-beside a g x (taken (cs ∷ t) m l) o =
+    let z = a .width in
+    let e : suc (a .number) + length cs ≡ a .number + suc (length cs) = omega arith in
+    same-total refl (omega (arith, fields-cons (x .content) cs t)) (omega (arith, text-cons (x .content) cs t)) refl
+    (flag-twice m (x .drops) (a .flags .blanks))
+    (ap (λ (n : ℕ). (not (even z n) || differs (cond (eqb z 0) n z) t) || a .flags .ragged) e)
 
 -- a record before others, whose width is then set: e, it is as wide as the first; f, the next is; g, a later one is not
 ragged-line : (e f g v : Bool) → ((not f || g) || (not e || v)) ≡ ((not e || (not f || g)) || v)
@@ -190,99 +268,54 @@ ragged-line false true true v = refl
 ragged-line false true false v = refl
 ragged-line false false g v = refl
 
-flag-twice : (k l : ℕ) (v : Bool) → (some k || (some l || v)) ≡ (some (l + k) || v)
-flag-twice k l v = or-swap (some k) (some l) v ∙ ap (λ (b : Bool). b || v) (sym (some-plus l k))
-
--- the same of a record of one field before what is read, with the width set: y + 1; e says whether the record has it
-abbrev lined : Sums → Flags → Content → ℕ → ℕ → ℕ → Bool → Judged → Ans
-lined s v c n l y e (declined i p q) = stop i q
-lined s v c n l y e (taken t m k) =
-    sums
-    (record {
-      records = s .records + suc (length t);
-      fields = s .fields + length (flatten ((c ∷ []) ∷ t));
-      text = s .text + length (flatten (flatten ((c ∷ []) ∷ t)));
-    })
-    (flagRecord (some (l + k)) (some (n + m)) (not e || differs (suc y) t) v)
-
-one-text : (c : Content) (t : Table) → length (flatten (flatten ((c ∷ []) ∷ t))) ≡ length c + length (flatten (flatten t))
-one-text c t = text-cons c [] t ∙ ap (λ (l : List Content). length c + length (flatten l)) (skip-nil t)
-
-one-field : (c : Content) (t : Table) → length (flatten ((c ∷ []) ∷ t)) ≡ suc (length (flatten t))
-one-field c t = fields-cons c [] t ∙ ap (λ (l : List Content). suc (length l)) (skip-nil t)
-
-no-text : length (flatten (flatten {A = Content} [])) ≡ 0
-unfolding flatten
-no-text = refl
-
-no-field : length (flatten {A = Content} []) ≡ 0
-unfolding flatten
-no-field = refl
-
-module _ (s : Sums) (v : Flags) (c : Content) (n l : ℕ) where
-  lined-set :
-      (y : ℕ) (e : Bool) (a : Judged) → Some a
-      → tallied (suc y) 0 (addRecord s (length c)) (flagRecord (some l) (some n) (not e) v) a ≡ lined s v c n l y e a
-  lined-set y e (declined i p q) o = refl
-  lined-set y e (taken (es ∷ t) m k) o =
-      same-sums (omega arith) (omega (arith, one-field c (es ∷ t))) (omega (arith, one-text c (es ∷ t)))
-      (flag-twice k l (v .lf)) (flag-twice m n (v .blanks))
-      (rw (zero-add (length es), eqb·suc-zero y) (ragged-line e (eqb (length es) (suc y)) (differs (suc y) t) (v .ragged)))
-
-  lined-end :
-      (y : ℕ) (e : Bool) → sums (addRecord s (length c)) (flagRecord (some l) (some n) (not e) v) ≡ lined s v c n l y e (taken [] 0 0)
-  lined-end y e =
-      same-sums refl (omega (arith, one-field c [], no-field)) (omega (arith, one-text c [], no-text))
-      (rw (add-zero l)) (rw (add-zero n))
-      (ap (λ (b : Bool). b || v .ragged) (sym (or-false (not e))))
-
-  lined-above :
-      (z j y : ℕ) (a : Judged) → cond (eqb z 0) (suc j) z ≡ suc y → tallied z j s v (above (c ∷ []) n l a) ≡ lined s v c n l y (even z (suc j)) a
-  lined-above z j y (declined i p q) e = refl
-  lined-above z j y (taken t m k) e = rw (add-one j, e)
-
+-- the width is set behind the first record
 width-set : (z j : ℕ) → (y : ℕ) × (cond (eqb z 0) (suc j) z ≡ suc y)
 width-set zero j = (j, refl)
 width-set (suc z) j = (z, rw (eqb·suc-zero z))
 
--- tests are passed on
-line-cond :
-    (x y : Bool) (p a : Bytes) (z j : ℕ) (s : Sums) (v : Flags) (k : Ans) (r : Judged) → k ≡ tallied z j s v r
-    → cond x (cond y k (stop 10 a)) (stop 9 p) ≡ tallied z j s v (cond x (cond y r (declined 10 a a)) (declined 9 a p))
-line-cond true true p a z j s v k r e = e
-line-cond true false p a z j s v k r e = refl
-line-cond false y p a z j s v k r e = refl
+module _ (a : Account) (x : Cell) (l : ℕ) where
+  -- a record of one field before others, and as the last
+  tallied-above : (g : Bytes) (r : Judged) → Some r → tallied (recordOn (some l) g (counted a x)) r ≡ tallied a (above (x .content ∷ []) (x .drops) l r)
+  tallied-above g (declined i p q) o = refl
+  tallied-above g (taken (es ∷ t) m k) o =
+      let (y, e) = width-set (a .width) (a .number) in
+      same-total (omega arith) (omega (arith, one-field (x .content) (es ∷ t))) (omega (arith, one-text (x .content) (es ∷ t)))
+      (flag-twice k l (a .flags .lf)) (flag-twice m (x .drops) (a .flags .blanks))
+      (rw (add-one (a .number), e, zero-add (length es), eqb·suc-zero y)
+      (ragged-line (even (a .width) (suc (a .number))) (eqb (length es) (suc y)) (differs (suc y) t) (a .flags .ragged)))
 
-field-cond :
-    (x : Bool) (p a : Bytes) (z j : ℕ) (s : Sums) (v : Flags) (k : Ans) (r : Judged) → k ≡ tallied z j s v r
-    → cond x k (stop 9 p) ≡ tallied z j s v (cond x r (declined 9 a p))
-field-cond true p a z j s v k r e = e
-field-cond false p a z j s v k r e = refl
+  tallied-last : closed (recordOn (some l) [] (counted a x)) ≡ tallied a (above (x .content ∷ []) (x .drops) l (taken [] 0 0))
+  unfolding flatten
+  tallied-last =
+      same-total refl (omega (arith, one-field (x .content) [])) (omega (arith, one-text (x .content) []))
+      (rw (add-zero l)) (rw (add-zero (x .drops)))
+      (rw (add-one (a .number)) (ap (λ (b : Bool). b || a .flags .ragged) (sym (or-false (not (even (a .width) (suc (a .number))))))))
+
+-- tests are passed on
+tallied-cond :
+    (x : Bool) (n : ℕ) (p q : Bytes) (a : Account) (k : Ans Total) (r : Judged) → k ≡ tallied a r
+    → cond x k (stop n p) ≡ tallied a (cond x r (declined n q p))
+tallied-cond true n p q a k r e = e
+tallied-cond false n p q a k r e = refl
 
 -- what a trace comes to is what the model judges of it
-pub tallies : (d : Dialect) (z j : ℕ) (p : Bytes) (s : Sums) (v : Flags) (r : Trace) → goes d z j p 0 0 s v r ≡ tallied z j s v (judge d (widthOf z) j p r)
+pub tallies : (d : Dialect) (a : Account) (r : Trace) → goes d (fresh a) r ≡ tallied a (judge d (widthOf (a .width)) (a .number) (a .start) r)
 unfolding fits
-tallies d z j p s v (refused n a q) = refl
-tallies d z j p s v (last x l a) =
-    let (y, e) = width-set z j in
-    rw (full-none (x .content), drops-none x)
-    (line-cond (fits (x .content)) (agrees d (widthOf z) (suc j)) p a z j s v _ _
-    (lined-end s v (x .content) (x .drops) l y (even z (suc j)) ∙ sym (lined-above s v (x .content) (x .drops) l z j y (taken [] 0 0) e)))
-tallies d z j p s v (field x a g r) =
-    rw (full-none (x .content), drops-none x)
-    (field-cond (fits (x .content)) p a z j s v _ _
-    (tallies d z (suc j) g (addField s (length (x .content))) (flagBlanks (some (x .drops)) v) r
-    ∙ tallied-beside z j s v x (judge d (widthOf z) (suc j) g r) (some-judge d (widthOf z) (suc j) g r)))
-tallies d z j p s v (line x l a g r) =
-    let (y, e) = width-set z j in
-    let c = x .content in
-    let n = x .drops in
-    let s′ : Sums = addRecord s (length c) in
-    let v′ : Flags = flagRecord (some l) (some n) (not (even z (suc j))) v in
-    let q = judge d (settled (widthOf z) (suc j)) 0 g r in
-    rw (full-none c, drops-none x)
-    (line-cond (fits c) (agrees d (widthOf z) (suc j)) p a z j s v _ _
-    (tallies d (cond (eqb z 0) (suc j) z) 0 g s′ v′ r
-    ∙ (ap (λ (w : Width). tallied (cond (eqb z 0) (suc j) z) 0 s′ v′ (judge d w 0 g r)) (sym (settled-width z j))
-    ∙ (ap (λ (i : ℕ). tallied i 0 s′ v′ q) e
-    ∙ (lined-set s v c n l y (even z (suc j)) q (some-judge d (settled (widthOf z) (suc j)) 0 g r) ∙ sym (lined-above s v c n l z j y q e))))))
+tallies d a (refused n p q) = refl
+tallies d a (last x l p) =
+    ap (λ (w : Work). recordUp d w p (closed (recordOn (some l) [] w))) (whole-fresh a x)
+    ∙ tallied-cond (fits (x .content)) 9 (a .start) p a _ _
+    (tallied-cond (agrees d (widthOf (a .width)) (suc (a .number))) 10 p p a _ _ (tallied-last a x l))
+tallies d a (field x p g r) =
+    let j = suc (a .number) in
+    ap (λ (w : Work). fieldUp w (goes d (fresh (fieldOn g w)) r)) (whole-fresh a x)
+    ∙ tallied-cond (fits (x .content)) 9 (a .start) p a _ _
+    (tallies d (fieldOn g (counted a x)) r ∙ tallied-beside a g x (judge d (widthOf (a .width)) j g r) (some-judge d (widthOf (a .width)) j g r))
+tallies d a (line x l p g r) =
+    let next = recordOn (some l) g (counted a x) in
+    let w = settled (widthOf (a .width)) (suc (a .number)) in
+    ap (λ (w : Work). recordUp d w p (goes d (fresh (recordOn (some l) g w)) r)) (whole-fresh a x)
+    ∙ tallied-cond (fits (x .content)) 9 (a .start) p a _ _
+    (tallied-cond (agrees d (widthOf (a .width)) (suc (a .number))) 10 p p a _ _
+    (tallies d next r
+    ∙ (ap (λ (v : Width). tallied next (judge d v 0 g r)) (sym (settled-width (a .width) (a .number))) ∙ tallied-above a x l g (judge d w 0 g r) (some-judge d w 0 g r))))

@@ -1,16 +1,16 @@
 -- The model's verdict on a file, against readings and refusals.
-use Prim.Native.Nat.{ℕ, _≤_}
+use Prim.Native.Nat.{ℕ, _+_, _≤_, _<_}
 use native.Mathlib.Omega.{arith}
 use mathlib.Core.Path.{_≡_, refl, sym, ap, subst, _∙_}
-use mathlib.Core.Bool.{Bool, true, false, cond, _&&_, true≢false}
+use mathlib.Core.Bool.{Bool, true, false, cond, true≢false}
 use lib.Dec.{T, leb}
 use lib.ListN.{length}
 use borrow.Author.Tests.{le-leb, lt-leb, leb-true, leb-false}
 use Rattle.format.specs.declared.Place.{Place}
 use Rattle.format.specs.Table.{Bytes, Table}
-use Rattle.format.specs.Dialect.{Dialect, dialect, delimits, Valid}
-use Rattle.format.specs.House.{EmptyFile, fileLimit}
-use Rattle.format.specs.Count.{wides, uses, sumOf}
+use Rattle.format.specs.Dialect.{lf, blanks, ragged, bytes, bitOf, Dialect, dialect, delimits, Valid}
+use Rattle.format.specs.House.{EmptyFile, isRagged, fileLimit}
+use Rattle.format.specs.Count.{wides, some, uses, sumOf}
 use Rattle.format.specs.Place.{place, placeOf}
 use Rattle.format.specs.Refusal.{Refusal}
 use Rattle.format.specs.Reading.{Reading, Accepted, Refused, refusal-1, refusal-2, in-file}
@@ -19,6 +19,18 @@ use Rattle.steps.proofs.Limits.{read-complete, refusal-complete, Reads,
 use Rattle.steps.proofs.Widths.{allowed-fine, fine-allowed, refusal-refuses, refuses-refusal}
 
 module _ (d : Dialect) where
+  -- a refusal names its place; what is taken is accepted, with the bits of the leniencies used
+  pub verdict-declined : (f : Bytes) (n : ℕ) (found named : Bytes) → verdict d f (declined n found named) ≡ refuses n (placeOf f named)
+  unfolding verdict
+  verdict-declined f n found named = refl
+
+  pub verdict-taken :
+      (f : Bytes) (t : Table) (m l : ℕ)
+      → verdict d f (taken t m l)
+      ≡ accepts t (cond (some l) (bitOf lf) 0 + (cond (some m) (bitOf blanks) 0 + (cond (isRagged t) (bitOf ragged) 0 + cond (some (wides d f)) (bitOf bytes) 0)))
+  unfolding verdict used
+  verdict-taken f t m l = refl
+
   reads-reading : {f : Bytes} {t : Table} {m l : ℕ} → Reads d any f t m l → Reading d f t (sumOf (used d f t m l))
   unfolding used uses wides
   reads-reading reads-none = Reading.nothing EmptyFile.empty
@@ -76,22 +88,27 @@ module _ (d : Dialect) where
 
 -- over any two dialect bytes; first the test for a valid dialect
 module _ (b sum : ℕ) where
-  valid-yes : Valid b sum → isValid b sum ≡ true
+  pub valid-sum : delimits b ≡ true → isValid b sum ≡ leb sum 15
   unfolding isValid
-  valid-yes v = rw (le-leb sum 15 (v .1)) (go (delimits b) (v .0))
+  valid-sum e = rw e
+
+  pub valid-other : delimits b ≡ false → isValid b sum ≡ false
+  unfolding isValid
+  valid-other e = rw e
+
+  valid-yes : Valid b sum → isValid b sum ≡ true
+  valid-yes v = go (delimits b) refl (v .0)
     where
-      go : (x : Bool) → T x → (x && true) ≡ true
-      go true t = refl
-      go false t = absurd t
+      go : (x : Bool) → delimits b ≡ x → T x → isValid b sum ≡ true
+      go true e t = valid-sum e ∙ le-leb sum 15 (v .1)
+      go false e t = absurd t
 
   yes-valid : isValid b sum ≡ true → Valid b sum
-  unfolding isValid
-  yes-valid e = go (delimits b) (leb sum 15) refl e
+  yes-valid e = go (delimits b) refl
     where
-      go : (x y : Bool) → leb sum 15 ≡ y → (x && y) ≡ true → T x × (sum ≤ 15)
-      go true true q e = (tt, leb-true sum 15 q)
-      go true false q e = absurd (true≢false (sym e))
-      go false y q e = absurd (true≢false (sym e))
+      go : (x : Bool) → delimits b ≡ x → T x × (sum ≤ 15)
+      go true q = (tt, leb-true sum 15 (sym (valid-sum q) ∙ e))
+      go false q = absurd (true≢false (sym e ∙ valid-other q))
 
   no-valid : (Valid b sum → ⊥) → isValid b sum ≡ false
   no-valid h = go (isValid b sum) refl
@@ -100,16 +117,29 @@ module _ (b sum : ℕ) where
       go true e = absurd (h (yes-valid e))
       go false e = refl
 
-  pub accepted-model : {f : Bytes} {t : Table} {r : ℕ} → Accepted b sum f t r → model b sum f ≡ accepts t r
+  -- the model, by its tests: the dialect, the file limit, and then its verdict
+  pub model-invalid : (f : Bytes) → isValid b sum ≡ false → model b sum f ≡ refuses 1 (place 0 0 0)
   unfolding model
-  accepted-model {f} a = rw (valid-yes (a .valid), le-leb (length f) fileLimit (a .short)) (reading-verdict (dialect b sum) (a .reading))
+  model-invalid f e = rw e
+
+  pub model-long : (f : Bytes) → isValid b sum ≡ true → fileLimit < length f → model b sum f ≡ refuses 2 (place 0 0 0)
+  unfolding model
+  model-long f e l = rw (e, lt-leb (length f) fileLimit l)
+
+  pub model-within :
+      (f : Bytes) → isValid b sum ≡ true → length f ≤ fileLimit → model b sum f ≡ verdict (dialect b sum) f (read (dialect b sum) any f)
+  unfolding model
+  model-within f e l = rw (e, le-leb (length f) fileLimit l)
+
+  pub accepted-model : {f : Bytes} {t : Table} {r : ℕ} → Accepted b sum f t r → model b sum f ≡ accepts t r
+  accepted-model {f} a = model-within f (valid-yes (a .valid)) (a .short) ∙ reading-verdict (dialect b sum) (a .reading)
 
   pub refused-model : {f : Bytes} {n : ℕ} {p : Place} → Refused b sum f n p → model b sum f ≡ refuses n p
-  unfolding model verdict
-  refused-model (refusal-1 v) = rw (no-valid v)
-  refused-model {f} (refusal-2 v l) = rw (valid-yes v, lt-leb (length f) fileLimit l)
-  refused-model {f} (in-file {n} v l x q) =
-      rw (valid-yes v, le-leb (length f) fileLimit l, refusal-read (dialect b sum) x) (ap (refuses n) q)
+  refused-model {f} (refusal-1 v) = model-invalid f (no-valid v)
+  refused-model {f} (refusal-2 v l) = model-long f (valid-yes v) l
+  refused-model {f} (in-file {n} {found} {named} v l x q) =
+      model-within f (valid-yes v) l
+      ∙ (ap (verdict (dialect b sum) f) (refusal-read (dialect b sum) x) ∙ (verdict-declined (dialect b sum) f n found named ∙ ap (refuses n) q))
 
   -- what a verdict says of a file
   abbrev pub Holds : Bytes → Verdict → Type 0
@@ -124,12 +154,13 @@ module _ (b sum : ℕ) where
       go (refuses n p) e = let (i, j, x, q) = verdict-refusal (dialect b sum) f e in in-file v l x q
 
   pub model-holds : (f : Bytes) → Holds f (model b sum f)
-  unfolding model
   model-holds f = go (isValid b sum) (leb (length f) fileLimit) refl refl
     where
-      go :
-          (x y : Bool) → isValid b sum ≡ x → leb (length f) fileLimit ≡ y
-          → Holds f (cond x (cond y (verdict (dialect b sum) f (read (dialect b sum) any f)) (refuses 2 (place 0 0 0))) (refuses 1 (place 0 0 0)))
-      go true true v l = in-file-holds f (yes-valid v) (leb-true (length f) fileLimit l)
-      go true false v l = refusal-2 (yes-valid v) (leb-false (length f) fileLimit l)
-      go false y v l = refusal-1 (λ h. true≢false (sym (valid-yes h) ∙ v))
+      go : (x y : Bool) → isValid b sum ≡ x → leb (length f) fileLimit ≡ y → Holds f (model b sum f)
+      go true true v l =
+          let h = leb-true (length f) fileLimit l in
+          rw (model-within f v h) (in-file-holds f (yes-valid v) h)
+      go true false v l =
+          let h = leb-false (length f) fileLimit l in
+          rw (model-long f v h) (refusal-2 (yes-valid v) h)
+      go false y v l = rw (model-invalid f v) (refusal-1 (λ h. true≢false (sym (valid-yes h) ∙ v)))

@@ -1,7 +1,7 @@
 -- The rules record by record, with the width that the first record sets, are the rules of the whole table.
 use Prim.Native.Nat.{ℕ}
-use mathlib.Core.Path.{_≡_, refl, sym}
-use mathlib.Core.Bool.{Bool, true, false, not, _||_, or-false, or-assoc}
+use mathlib.Core.Path.{_≡_, refl}
+use mathlib.Core.Bool.{Bool, true, false, not, _||_}
 use mathlib.Core.List.{List, [], _∷_, _++_}
 use lib.Dec.{T, eqb}
 use lib.ListN.{length}
@@ -9,10 +9,11 @@ use Rattle.format.specs.Table.{Bytes, Content, Table, Every}
 use Rattle.format.specs.Dialect.{ragged, Dialect}
 use Rattle.format.specs.House.{differs, EqualRows, Fits, Allowed}
 use Rattle.format.specs.Refusal.{Records, Refusal}
+use Rattle.format.proofs.Even.{even-one, even-last, last-even}
 use Rattle.steps.specs.Model.{Width, any, just, settled, agrees}
 use Rattle.steps.proofs.Limits.{Fine, Here, in-record, uneven, Refuses, here, later}
 
--- one record more, before and behind the others: e, it has the width; f, another has not; r, that is allowed
+-- one record more before the others: e, it has the width; f, another has not; r, that is allowed
 split-first : (r e f : Bool) → T (r || not (not e || f)) → T (r || e) × T (r || not f)
 split-first true e f t = (tt, tt)
 split-first false true f t = (tt, t)
@@ -22,18 +23,6 @@ join-first : (r e f : Bool) → T (r || e) → T (r || not f) → T (r || not (n
 join-first true e f t u = tt
 join-first false true f t u = u
 join-first false false f t u = absurd t
-
-split-last : (r e f : Bool) → T (r || not (f || not e)) → T (r || e)
-split-last true e f t = tt
-split-last false true f t = tt
-split-last false false true t = absurd t
-split-last false false false t = absurd t
-
-join-last : (r e f : Bool) → T (r || e) → T (r || not f) → T (r || not (f || not e))
-join-last true e f t u = tt
-join-last false true false t u = tt
-join-last false true true t u = absurd u
-join-last false false f t u = absurd t
 
 or-yes : (r : Bool) → T (r || true)
 or-yes true = tt
@@ -73,25 +62,17 @@ behind-just : (n : ℕ) (t : Table) → behind (just n) t ≡ just n
 behind-just n [] = refl
 behind-just n (cs ∷ t) = behind-just n t
 
-differs-last : (n : ℕ) (t : Table) (cs : List Content) → differs n (t ++ (cs ∷ [])) ≡ (differs n t || not (eqb (length cs) n))
-differs-last n [] cs = or-false (not (eqb (length cs) n))
-differs-last n (es ∷ t) cs = rw (differs-last n t cs) (sym (or-assoc (not (eqb (length es) n)) (differs n t) (not (eqb (length cs) n))))
-
 module _ (d : Dialect) where
   -- the next record agrees exactly if the rows stay equal with it
   agrees-equal : (t : Table) (cs : List Content) → EqualRows d t → T (agrees d (behind any t) (length cs)) → EqualRows d (t ++ (cs ∷ []))
-  unfolding EqualRows agrees
-  agrees-equal [] cs h u = or-yes (d .allows ragged)
-  agrees-equal (es ∷ t) cs h u =
-      rw (differs-last (length es) t cs)
-      (join-last (d .allows ragged) (eqb (length cs) (length es)) (differs (length es) t) (rw (behind-just (length es) t) at u) h)
+  unfolding agrees
+  agrees-equal [] cs h u = even-one d cs
+  agrees-equal (es ∷ t) cs h u = even-last d es t cs h (rw (behind-just (length es) t) at u)
 
   equal-agrees : (t : Table) (cs : List Content) → EqualRows d (t ++ (cs ∷ [])) → T (agrees d (behind any t) (length cs))
-  unfolding EqualRows agrees
+  unfolding agrees
   equal-agrees [] cs h = tt
-  equal-agrees (es ∷ t) cs h =
-      rw (behind-just (length es) t)
-      (split-last (d .allows ragged) (eqb (length cs) (length es)) (differs (length es) t) (rw (differs-last (length es) t cs) at h))
+  equal-agrees (es ∷ t) cs h = rw (behind-just (length es) t) (last-even d es t cs h)
 
   thread :
       {n : ℕ} {f g found named : Bytes} {t : Table} {w : Width}

@@ -9,7 +9,7 @@ use lib.ListN.{length, getD}
 use borrow.Author.Tests.{leb-true, le-leb, eq-eqb, eqb-true}
 use Rattle.format.specs.Table.{Bytes, lastOf}
 use Rattle.format.specs.Memory.{Ordered, WellFormed, startOf}
-use Rattle.format.proofs.Memory.{well-formed, entry-within}
+use Rattle.format.proofs.Memory.{last-nil, last-first, well-formed, entry-within}
 use Rattle.tables.specs.Formed.{Decides, Cuts, runsTo}
 
 module _ {A : Type 0} where
@@ -22,9 +22,9 @@ module _ {A : Type 0} where
 -- over any order that a gap decides
 module _ (R : ℕ → ℕ → Type 0) (gap : ℕ) (from : (n m : ℕ) → n + gap ≤ m → R n m) (back : (n m : ℕ) → R n m → n + gap ≤ m) (end : ℕ) where
   pub runs : (n : ℕ) (l : List ℕ) → runsTo gap end n l ≡ true → Ordered R n l × (lastOf n l ≡ end)
-  unfolding runsTo lastOf
-  runs n [] e = (tt, eqb-true n end e)
-  runs n (m ∷ l) e = go (leb (n + gap) m) refl e (runs m l)
+  unfolding runsTo
+  runs n [] e = (tt, last-nil n ∙ eqb-true n end e)
+  runs n (m ∷ l) e = rw (last-first n m l) (go (leb (n + gap) m) refl e (runs m l))
     where
       go :
           (x : Bool) → leb (n + gap) m ≡ x → cond x (runsTo gap end m l) false ≡ true
@@ -33,9 +33,9 @@ module _ (R : ℕ → ℕ → Type 0) (gap : ℕ) (from : (n m : ℕ) → n + ga
       go false h i k = absurd (true≢false (sym i))
 
   pub runs-back : (n : ℕ) (l : List ℕ) → Ordered R n l → lastOf n l ≡ end → runsTo gap end n l ≡ true
-  unfolding runsTo lastOf
-  runs-back n [] o e = eq-eqb n end e
-  runs-back n (m ∷ l) (h, o) e = rw (le-leb (n + gap) m (back n m h)) (runs-back m l o e)
+  unfolding runsTo
+  runs-back n [] o e = eq-eqb n end (sym (last-nil n) ∙ e)
+  runs-back n (m ∷ l) (h, o) e = rw (le-leb (n + gap) m (back n m h)) (runs-back m l o (sym (last-first n m l) ∙ e))
 
 module _ {text : Bytes} {ends rows : List ℕ} where
   formed : runsTo 1 (length ends) 0 rows ≡ true → runsTo 0 (length text) 0 ends ≡ true → WellFormed text ends rows

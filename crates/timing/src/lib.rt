@@ -2,14 +2,13 @@
 ghost use mathlib.Core.Path.{_≡_};
 ghost use Rattle.timing.specs.Timing.{recordsOf, CheckTimed, ReadTimed};
 use format::Answer;
-use pieces::Check;
 
 // Checks a file, and says how many records it has; 0 where it is refused.
 #[no_mangle]
 pub extern "C" fn siprovault_timing_check(file: &[u8]) -> u32
     ensures { λ r. ⌜ CheckTimed (now (file .entry)) r ⌝ }
 {
-    let answer = Check::start(b',', 0).feed(file).ask();
+    let answer = pieces::ask(pieces::feed(pieces::start(b',', 0), file));
     records(answer)
 }
 

@@ -1,5 +1,6 @@
 -- `reader::read_accepted` meets its contract.
 use Rattle.reader.proofs.Outcomes.{lacks-text, lacks-ends, lacks-rows, has-room, fills}
+use native.Mathlib.Omega.{arith}
 use borrow.Author.Needs.{needs}
 use Rattle.reader.proofs.read_accepted.Statement.{statement}
 use Rattle.reader.proofs.read_accepted.Tie as tie
@@ -41,14 +42,17 @@ returns-3 c =
     lacks-rows (text-test .before .before .before .before .before .before .pre) (text-test .if1 .left) (ends-test .if2 .left) (rows-test .if3 .taken)
     (c .no-room3 .ensures)
 
-fill-requires : tie.Need-fill-requires
-fill-requires c κs =
+write-table-requires : tie.Need-write-table-requires
+write-table-requires c κs =
     let rows-test = c .before .before .before in
     let ends-test = rows-test .before .before in
     let text-test = ends-test .before .before in
     let x =
     has-room (text-test .before .before .before .before .before .before .pre) (text-test .if1 .left) (ends-test .if2 .left) (rows-test .if3 .left) in
-    (x .0, (x .1, (x .2, x .3)))
+    let s = text-test .before .before .before .before .before .before in
+    let y =
+    has-room {x = 4294967295} {y = 4294967295} {z = 4294967295} (s .pre) (omega (arith, s .good)) (omega (arith, s .good)) (omega (arith, s .good)) in
+    ((y .0, y .1), (x .0, (x .1, x .2)))
 
 same-length : tie.Need-same-length
 same-length c = search needs
@@ -65,7 +69,7 @@ returns-4 c =
     let rows-test = filled .before .before .before .before in
     let ends-test = rows-test .before .before in
     let text-test = ends-test .before .before in
-    let e = filled .fill .ensures in
+    let e = filled .write-table .ensures in
     fills (text-test .before .before .before .before .before .before .pre) (text-test .if1 .left) (ends-test .if2 .left) (rows-test .if3 .left) (e .0)
     (e .1 .0) (e .1 .1)
 
@@ -82,7 +86,7 @@ read-accepted-spec =
     cast-if3
     no-room-requires-3
     returns-3
-    fill-requires
+    write-table-requires
     same-length
     same-length-2
     same-length-3

@@ -1,0 +1,6 @@
+pub mod Calls
+pub mod Copy
+pub mod Flow
+pub mod Grown
+pub mod Left
+pub mod Put

@@ -1,0 +1,514 @@
+-- A walk over fields and records goes on: over text, over the end of a bare or a quoted field, and over the end of a record.
+use Prim.Native.Nat.{ℕ, zero, suc, _+_, _-_, _≤_, _<_, min}
+use native.Mathlib.Omega.{arith}
+use mathlib.Core.Path.{_≡_, refl, sym, ap, ap₂, _∙_}
+use mathlib.Core.Bool.{Bool, true, false, cond}
+use lib.Dec.{eqb, eqb·suc-zero}
+use lib.ListN.{length, getD, drop}
+use borrow.Author.Tests.{eqb-true, eqb-false, ne-eqb}
+use Rattle.format.specs.declared.Place.{Place}
+use Rattle.format.specs.Table.{Bytes}
+use Rattle.format.specs.Dialect.{dialect}
+use Rattle.format.specs.House.{contentLimit}
+use Rattle.steps.specs.Steps.{start, bare, shut}
+use Rattle.runs.specs.Runs.{run, isPlain, isBreak}
+use Rattle.runs.proofs.Runs.{run-join, run-within, BreakAt, break-at}
+use Rattle.state.specs.declared.Check.{Check}
+use Rattle.spans.specs.declared.Inside.{Inside}
+use Rattle.spans.specs.declared.Walk.{Walk}
+use Rattle.places.specs.Counters.{counterLimit, plus, along, spot}
+use Rattle.state.specs.Check.{fed, fedAll, jumped}
+use Rattle.state.specs.Settled.{Settled}
+use Rattle.spans.specs.Walk.{Between, lastLine, Level, placedAt, fieldOn, rowOn, opening, begun, texted, walked, Closed, endAt, endedBy, Fits, Sized, Walking, Goes, Leading}
+use Rattle.places.proofs.Counting.{plus-counted, along-along, spot-further, spot-flat, spot-lines}
+use Rattle.state.proofs.Jumps.{shut-step, text-leap}
+use Rattle.state.proofs.Between.{fed-at}
+use Rattle.state.proofs.Parts.{entered-is, jumped-is}
+use Rattle.state.proofs.Closing.{quote-opened}
+use Rattle.spans.proofs.Fields.{Opened, opened-some, opened-none, Ended, field-end, row-end}
+
+-- the start of the field in work
+pub at-start : (c : Check) (s : Bytes) (a : ℕ) (x : Walk) → Walking c s a x → Opened c a x (begun x a c)
+at-start c s a x w = go (eqb (x .fields) 0) refl
+  where
+    go : (y : Bool) → eqb (x .fields) 0 ≡ y → Opened c a x (cond y c (opening x a c))
+    go true e = let f = eqb-true (x .fields) 0 e in opened-none c s a x (w .level) (w .unmoved f) f
+    go false e = opened-some c a x (w .line) (let q = w .line in omega (arith, w .on))
+
+-- m bytes of text behind it
+texted-some : (m : ℕ) (e : Check) → texted (suc m) e ≡ jumped 2 (along (suc m) (e .here)) (suc m) e
+texted-some m e = rw (eqb·suc-zero m)
+
+pub texted-leads :
+    (e : Check) (s : Bytes) (i m : ℕ) → e .refusal ≡ 0 → e .form ≡ 0 → m ≤ run (isPlain (dialect (e .delimiter) (e .leniencies))) (drop i s)
+    → fedAll (texted m e) (drop (i + m) s) ≡ fedAll e (drop i s)
+texted-leads e s i zero r f h = let z : i + 0 ≡ i = omega arith in rw z
+texted-leads e s i (suc m) r f h =
+    ap (λ (g : Check). fedAll g (drop (i + suc m) s)) (texted-some m e) ∙ text-leap s i (suc m) e (omega arith) r (omega arith) h
+
+module _ (c : Check) (a : ℕ) (x : Walk) (e : Check) (o : Opened c a x e) (calm : c .refusal ≡ 0) where
+  quiet : e .refusal ≡ 0
+  quiet = o .refusal ∙ calm
+
+  small : (m n k : ℕ) → n ≡ 0 → k ≡ 0 → m ≤ contentLimit → plus (plus n k) m ≤ contentLimit
+  small m n k e₁ e₂ l = omega arith
+
+  weighs : (t m n k : ℕ) → n ≡ 0 → k ≡ 0 → plus t (plus (plus n k) m) ≡ plus t m
+  weighs t m n k e₁ e₂ = ap (plus t) (whole n k e₁ e₂) ∙ plus-counted t m
+    where
+      whole : (n k : ℕ) → n ≡ 0 → k ≡ 0 → plus (plus n k) m ≡ min m counterLimit
+      whole n k e₁ e₂ = omega arith
+
+  -- a bare field ends
+  jump-ended : (m : ℕ) → suc m ≤ contentLimit → Ended c a x (jumped 2 (along (suc m) (e .here)) (suc m) e) (x .start + suc m) (suc m) (x .line) (x .lines)
+  jump-ended m l =
+      rw jumped-is
+      (record {
+        form = bare;
+        ending = record { refusal = quiet; form = refl; ends = tt; held = refl; content = small (suc m) (e .field .content) (e .field .held) (o .content) (o .held) l };
+        refusal = o .refusal;
+        delimiter = o .delimiter;
+        leniencies = o .leniencies;
+        used = o .used;
+        width = o .width;
+        records = o .records;
+        fields = o .fields;
+        text = weighs (e .counts .text) (suc m) (e .field .content) (e .field .held) (o .content) (o .held) ∙ o .text (suc m);
+        number = o .number;
+        ahead = λ k. along-along (suc m) (k + 1) (e .here) ∙ o .ahead (suc m + (k + 1)) ∙ ap₂ (λ (t n : ℕ). spot (x .lines) t n (c .here)) (ap (λ (n : ℕ). n - x .line) (joins k)) (ap (λ (n : ℕ). n - a) (joins k));
+      })
+    where
+      joins : (k : ℕ) → x .start + (suc m + (k + 1)) ≡ x .start + suc m + (k + 1)
+      joins k = omega arith
+
+  pub text-ended : (m : ℕ) → m ≤ contentLimit → Ended c a x (texted m e) (x .start + m) m (x .line) (x .lines)
+  text-ended zero l =
+      record {
+        form = start;
+        ending = record { refusal = quiet; form = o .form; ends = tt; held = o .held; content = let z = o .content in omega arith };
+        refusal = o .refusal;
+        delimiter = o .delimiter;
+        leniencies = o .leniencies;
+        used = o .used;
+        width = o .width;
+        records = o .records;
+        fields = o .fields;
+        text = ap (plus (e .counts .text)) (o .content) ∙ o .text 0;
+        number = o .number;
+        ahead = λ k. o .ahead (k + 1) ∙ ap₂ (λ (t n : ℕ). spot (x .lines) t n (c .here)) (ap (λ (n : ℕ). n + (k + 1) - x .line) stays) (ap (λ (n : ℕ). n + (k + 1) - a) stays);
+      }
+    where
+      stays : x .start ≡ x .start + 0
+      stays = omega arith
+  text-ended (suc m) l = rw (texted-some m e) (jump-ended m l)
+
+  -- a quoted field: behind the opening quote, behind m bytes of content, and behind the closing quote
+  module _ (other : c .delimiter ≡ 0x22 → ⊥) where
+    pub within-quotes : Check
+    within-quotes =
+        record {
+          delimiter = e .delimiter;
+          leniencies = e .leniencies;
+          refusal = e .refusal;
+          form = 3;
+          begun = 1;
+          used = e .used;
+          here = along 1 (e .here);
+          mark = e .here;
+          field = e .field;
+          counts = e .counts;
+        }
+
+    no-quote : e .delimiter ≡ 0x22 → ⊥
+    no-quote q = other (sym (o .delimiter) ∙ q)
+
+    pub opens-quote : fed e 0x22 ≡ within-quotes
+    unfolding within-quotes
+    opens-quote = quote-opened e quiet (o .form) no-quote ∙ entered-is (along 1 (e .here)) 3 (e .here) (e .used) (e .field) e
+
+    pub within-settled : Settled within-quotes
+    unfolding within-quotes
+    within-settled =
+        record {
+          refusal = quiet;
+          form = refl;
+          other = no-quote;
+          begun = refl;
+          held = o .held;
+          content = let z = o .content in omega arith;
+          line = o .line;
+          column = low (e .here .column .0);
+          byte = low (e .here .byte .0);
+        }
+      where
+        low : (n : ℕ) → plus n 1 ≤ counterLimit
+        low n = omega arith
+
+    module _ (l t n m : ℕ) where
+      pub content-read : Check
+      content-read =
+          record {
+            delimiter = e .delimiter;
+            leniencies = e .leniencies;
+            refusal = e .refusal;
+            form = 3;
+            begun = 1;
+            used = e .used;
+            here = spot l t n (along 1 (e .here));
+            mark = e .here;
+            field = record { start = e .field .start; content = plus (plus (e .field .content) (e .field .held)) m; held = 0; number = e .field .number };
+            counts = e .counts;
+          }
+
+      pub content-is : jumped 3 (spot l t n (within-quotes .here)) m within-quotes ≡ content-read
+      unfolding content-read within-quotes
+      content-is = jumped-is 3 (spot l t n (along 1 (e .here))) m within-quotes
+
+      pub behind-quotes : Check
+      behind-quotes =
+          record {
+            delimiter = e .delimiter;
+            leniencies = e .leniencies;
+            refusal = e .refusal;
+            form = 4;
+            begun = 1;
+            used = e .used;
+            here = along 1 (spot l t n (along 1 (e .here)));
+            mark = e .here;
+            field = record { start = e .field .start; content = plus (plus (e .field .content) (e .field .held)) m; held = 0; number = e .field .number };
+            counts = e .counts;
+          }
+
+      pub closes : fed content-read 0x22 ≡ behind-quotes
+      unfolding behind-quotes content-read
+      closes = shut-step content-read quiet refl no-quote ∙ entered-is (along 1 (content-read .here)) 4 (content-read .mark) (content-read .used) (content-read .field) content-read
+
+      -- the place behind the closing quote
+      module _ (z : ℕ) (ends : x .start + 1 + n ≡ z) (j : ℕ) (on-line : spot l t n (spot (x .lines) (x .start + 1 - x .line) (x .start + 1 - a) (c .here)) ≡ spot (x .lines + l) (z - j) (z - a) (c .here)) (line-in : j ≤ z) (on : a ≤ z) where
+        place-is : along 1 (spot l t n (along 1 (e .here))) ≡ spot (x .lines + l) (z + 1 - j) (z + 1 - a) (c .here)
+        place-is =
+            ap (λ (p : Place). along 1 (spot l t n p)) (o .ahead 1) ∙ ap (along 1) on-line ∙ spot-further (x .lines + l) z j a 1 (c .here) line-in on
+
+        pub quotes-ended : m ≤ contentLimit → Ended c a x behind-quotes (z + 1) m j (x .lines + l)
+        unfolding behind-quotes
+        quotes-ended q =
+            record {
+              form = shut;
+              ending = record { refusal = quiet; form = refl; ends = tt; held = refl; content = small m (e .field .content) (e .field .held) (o .content) (o .held) q };
+              refusal = o .refusal;
+              delimiter = o .delimiter;
+              leniencies = o .leniencies;
+              used = o .used;
+              width = o .width;
+              records = o .records;
+              fields = o .fields;
+              text = weighs (e .counts .text) m (e .field .content) (e .field .held) (o .content) (o .held) ∙ o .text m;
+              number = o .number;
+              ahead = λ k. ap (along (k + 1)) place-is ∙ spot-further (x .lines + l) (z + 1) j a (k + 1) (c .here) (omega arith) (omega arith);
+            }
+
+-- a walk from a place to one further on
+module _ (c : Check) (s : Bytes) (a : ℕ) (x : Walk) (w : Walking c s a x) where
+  pub walking-text : (k : ℕ) → k ≤ run (isPlain (dialect (c .delimiter) (c .leniencies))) (drop (x .at) s) → Walking c s a (placedAt x (x .at + k))
+  unfolding opening
+  walking-text k h =
+      let from = w .from in
+      record {
+        level = w .level;
+        within = run-within (isPlain (dialect (c .delimiter) (c .leniencies))) s (x .at) k (w .within) h;
+        from = omega arith;
+        line = w .line;
+        on = w .on;
+        lines = w .lines;
+        closed = w .closed;
+        text = w .text;
+        number = w .number;
+        unmoved = λ e. let u = w .unmoved e in record { start = u .start; line = u .line; lines = u .lines; rows = u .rows; text = u .text; number = u .number };
+        plain = run-join (isPlain (dialect (c .delimiter) (c .leniencies))) s (x .start) (x .at) k from (w .plain) h;
+        same = w .same;
+      }
+
+  -- the state at the end of the field
+  module _ (g : Check) (p m j l : ℕ) (h : Ended c a x g p m j l) (leads : fedAll g (drop p s) ≡ fedAll (begun x a c) (drop (x .start) s)) (on : x .start ≤ p) (line : j ≤ p) (from : a ≤ j) (lines : l ≤ p) (text : x .text + m ≤ p) where
+    some : (n : ℕ) → eqb (n + 1) 0 ≡ false
+    some n = ne-eqb (n + 1) 0 (λ e. omega arith)
+
+    far : a ≤ p
+    far = omega arith
+
+    pub walking-field : p < length s → getD s p 0 ≡ c .delimiter → Walking c s a (fieldOn x (p + 1) m j l)
+    walking-field v e =
+        let closed = w .closed in
+        let number = w .number in
+        record {
+          level = w .level;
+          within = omega arith;
+          from = omega arith;
+          line = omega arith;
+          on = from;
+          lines = omega arith;
+          closed = omega arith;
+          text = omega arith;
+          number = omega arith;
+          unmoved = λ q. absurd (omega arith);
+          plain = omega arith;
+          same =
+              ap (λ (y : Bool). fedAll (cond y c (opening (fieldOn x (p + 1) m j l) a c)) (drop (p + 1) s)) (some (x .fields))
+              ∙ ap (λ (y : Check). fedAll y (drop (p + 1) s)) (sym (field-end c a x g p m j l h far (w .level .no-lf) (getD s p 0) e))
+              ∙ fed-at g s p v ∙ leads ∙ w .same;
+        }
+
+    pub walking-row :
+        p + 1 < length s → getD s p 0 ≡ 0x0D → getD s (p + 1) 0 ≡ 0x0A → c .counts .width ≡ x .number + 1 → Walking c s a (rowOn x (p + 2) m l)
+    walking-row v e₁ e₂ q =
+        let closed = w .closed in
+        let two : p + 1 + 1 ≡ p + 2 = omega arith in
+        record {
+          level = w .level;
+          within = omega arith;
+          from = omega arith;
+          line = omega arith;
+          on = omega arith;
+          lines = omega arith;
+          closed = omega arith;
+          text = omega arith;
+          number = omega arith;
+          unmoved = λ q. absurd (omega arith);
+          plain = omega arith;
+          same =
+              ap (λ (y : Bool). fedAll (cond y c (opening (rowOn x (p + 2) m l) a c)) (drop (p + 2) s)) (some (x .fields))
+              ∙ ap (λ (y : Check). fedAll y (drop (p + 2) s)) (sym (row-end c a x g p m j l h far (w .level .no-lf) (w .level .no-cr) q (w .level .width)))
+              ∙ ap (λ (i : ℕ). fedAll (fed (fed g 0x0D) 0x0A) (drop i s)) (sym two)
+              ∙ ap (λ (b : ℕ). fedAll (fed (fed g 0x0D) b) (drop (p + 1 + 1) s)) (sym e₂)
+              ∙ fed-at (fed g 0x0D) s (p + 1) v
+              ∙ ap (λ (b : ℕ). fedAll (fed g b) (drop (p + 1) s)) (sym e₁)
+              ∙ fed-at g s p (omega arith) ∙ leads ∙ w .same;
+        }
+
+  -- a bare field ends where the walk stands
+  module _ (l : x .at - x .start ≤ contentLimit) where
+    stands : x .start + (x .at - x .start) ≡ x .at
+    stands = let from = w .from in omega arith
+
+    ends-here : Check
+    ends-here = texted (x .at - x .start) (begun x a c)
+
+    bare-ended : Ended c a x ends-here (x .at) (x .at - x .start) (x .line) (x .lines)
+    unfolding ends-here
+    bare-ended = rw stands at (text-ended c a x (begun x a c) (at-start c s a x w) (w .level .refusal) (x .at - x .start) l)
+
+    bare-leads : fedAll ends-here (drop (x .at) s) ≡ fedAll (begun x a c) (drop (x .start) s)
+    unfolding ends-here
+    bare-leads =
+        let o = at-start c s a x w in
+        let d : isPlain (dialect ((begun x a c) .delimiter) ((begun x a c) .leniencies)) ≡ isPlain (dialect (c .delimiter) (c .leniencies)) =
+        ap₂ (λ (y z : ℕ). isPlain (dialect y z)) (o .delimiter) (o .leniencies) in
+        ap (λ (i : ℕ). fedAll (texted (x .at - x .start) (begun x a c)) (drop i s)) (sym stands)
+        ∙ texted-leads (begun x a c) s (x .start) (x .at - x .start) (o .refusal ∙ w .level .refusal) (o .form) (rw d (w .plain))
+
+    line-here : x .line ≤ x .at
+    line-here = omega (arith, w .line, w .from)
+
+    lines-here : x .lines ≤ x .at
+    lines-here = omega (arith, w .lines, w .from)
+
+    text-here : x .text + (x .at - x .start) ≤ x .at
+    text-here = omega (arith, w .text, w .from)
+
+    pub bare-field : x .at < length s → getD s (x .at) 0 ≡ c .delimiter → Walking c s a (fieldOn x (x .at + 1) (x .at - x .start) (x .line) (x .lines))
+    bare-field v e = walking-field ends-here (x .at) (x .at - x .start) (x .line) (x .lines) bare-ended bare-leads (w .from) line-here (w .on) lines-here text-here v e
+
+    pub bare-row :
+        x .at + 1 < length s → getD s (x .at) 0 ≡ 0x0D → getD s (x .at + 1) 0 ≡ 0x0A → c .counts .width ≡ x .number + 1
+        → Walking c s a (rowOn x (x .at + 2) (x .at - x .start) (x .lines))
+    bare-row v e₁ e₂ q = walking-row ends-here (x .at) (x .at - x .start) (x .line) (x .lines) bare-ended bare-leads (w .from) line-here (w .on) lines-here text-here v e₁ e₂ q
+
+  -- a quoted field begins where the walk stands, and its content ends at r
+  module _ (here : x .at ≡ x .start) (v : x .at < length s) (e : getD s (x .at) 0 ≡ 0x22) (r : Inside) (b : Between s (x .at + 1) r) (l : r .content ≤ contentLimit) (u : r .end < length s) (q : getD s (r .end) 0 ≡ 0x22) where
+    o : Opened c a x (begun x a c)
+    o = at-start c s a x w
+
+    bytes-are : x .start + 1 + (r .end - (x .at + 1)) ≡ r .end
+    bytes-are = let on = b .on in omega arith
+
+    total : x .start + 1 - a + (r .end - (x .at + 1)) ≡ r .end - a
+    total = let on = b .on in omega (arith, w .on, w .line)
+
+    after-quotes : Check
+    after-quotes = behind-quotes c a x (begun x a c) o (w .level .refusal) (w .level .no-quote) (r .lines) (r .tail) (r .end - (x .at + 1)) (r .content)
+
+    line-from : (y : Bool) → eqb (r .lines) 0 ≡ y → (a ≤ cond y (x .line) (r .end - r .tail)) × (cond y (x .line) (r .end - r .tail) ≤ r .end)
+    line-from true z = (w .on, omega (arith, w .line, w .from, b .on))
+    line-from false z = (omega (arith, b .tail, w .on, w .line, w .from), omega arith)
+
+    on-line :
+        (y : Bool) → eqb (r .lines) 0 ≡ y
+        → spot (r .lines) (r .tail) (r .end - (x .at + 1)) (spot (x .lines) (x .start + 1 - x .line) (x .start + 1 - a) (c .here))
+        ≡ spot (x .lines + r .lines) (r .end - cond y (x .line) (r .end - r .tail)) (r .end - a) (c .here)
+    on-line true z =
+        let z′ = eqb-true (r .lines) 0 z in
+        let t : x .start + 1 - x .line + r .tail ≡ r .end - x .line = omega (arith, b .flat z′, w .line, here) in
+        rw z′ (spot-flat (r .tail) (r .end - (x .at + 1)) (x .lines) (x .start + 1 - x .line) (x .start + 1 - a) (c .here) ∙ ap₂ (λ (m n : ℕ). spot (x .lines + 0) m n (c .here)) t total)
+    on-line false z =
+        let t : r .tail ≡ r .end - (r .end - r .tail) = omega (arith, b .tail) in
+        spot-lines (r .lines) (r .tail) (r .end - (x .at + 1)) (x .lines) (x .start + 1 - x .line) (x .start + 1 - a) (c .here) (eqb-false (r .lines) 0 z)
+        ∙ ap₂ (λ (m n : ℕ). spot (x .lines + r .lines) m n (c .here)) t total
+
+    far-on : a ≤ r .end
+    far-on = omega (arith, w .on, w .line, w .from, b .on)
+
+    quoted-ended : Ended c a x after-quotes (r .end + 1) (r .content) (lastLine (x .line) r) (x .lines + r .lines)
+    unfolding after-quotes
+    quoted-ended =
+        quotes-ended c a x (begun x a c) o (w .level .refusal) (w .level .no-quote) (r .lines) (r .tail) (r .end - (x .at + 1)) (r .content) (r .end) bytes-are
+        (cond (eqb (r .lines) 0) (x .line) (r .end - r .tail)) (on-line (eqb (r .lines) 0) refl) (line-from (eqb (r .lines) 0) refl .1) far-on l
+
+    quoted-leads : fedAll after-quotes (drop (r .end + 1) s) ≡ fedAll (begun x a c) (drop (x .start) s)
+    unfolding after-quotes
+    quoted-leads =
+        let f = begun x a c in
+        let inner = within-quotes c a x f o (w .level .refusal) (w .level .no-quote) in
+        let read = content-read c a x f o (w .level .refusal) (w .level .no-quote) (r .lines) (r .tail) (r .end - (x .at + 1)) (r .content) in
+        ap (λ (y : Check). fedAll y (drop (r .end + 1) s)) (sym (closes c a x f o (w .level .refusal) (w .level .no-quote) (r .lines) (r .tail) (r .end - (x .at + 1)) (r .content)))
+        ∙ ap (λ (d : ℕ). fedAll (fed read d) (drop (r .end + 1) s)) (sym q)
+        ∙ fed-at read s (r .end) u
+        ∙ ap (λ (y : Check). fedAll y (drop (r .end) s)) (sym (content-is c a x f o (w .level .refusal) (w .level .no-quote) (r .lines) (r .tail) (r .end - (x .at + 1)) (r .content)))
+        ∙ b .same inner (within-settled c a x f o (w .level .refusal) (w .level .no-quote))
+        ∙ ap (λ (y : Check). fedAll y (drop (x .at + 1) s)) (sym (opens-quote c a x f o (w .level .refusal) (w .level .no-quote)))
+        ∙ ap (λ (d : ℕ). fedAll (fed f d) (drop (x .at + 1) s)) (sym e)
+        ∙ fed-at f s (x .at) v
+        ∙ ap (λ (i : ℕ). fedAll f (drop i s)) here
+
+    quoted-text : x .text + r .content ≤ r .end + 1
+    quoted-text = omega (arith, w .text, here, b .content)
+
+    quoted-lines : x .lines + r .lines ≤ r .end + 1
+    quoted-lines = omega (arith, w .lines, here, b .lines)
+
+    behind-start : x .start ≤ r .end + 1
+    behind-start = omega (arith, here, b .on)
+
+    quoted-line : (a ≤ lastLine (x .line) r) × (lastLine (x .line) r ≤ r .end + 1)
+    quoted-line = let h = line-from (eqb (r .lines) 0) refl in (h .0, omega (arith, h .1))
+
+    pub quoted-field : r .end + 1 < length s → getD s (r .end + 1) 0 ≡ c .delimiter → Walking c s a (fieldOn x (r .end + 1 + 1) (r .content) (lastLine (x .line) r) (x .lines + r .lines))
+    quoted-field n d =
+        walking-field after-quotes (r .end + 1) (r .content) (lastLine (x .line) r) (x .lines + r .lines) quoted-ended quoted-leads behind-start (quoted-line .1) (quoted-line .0) quoted-lines quoted-text n d
+
+    pub quoted-row :
+        r .end + 1 + 1 < length s → getD s (r .end + 1) 0 ≡ 0x0D → getD s (r .end + 1 + 1) 0 ≡ 0x0A → c .counts .width ≡ x .number + 1
+        → Walking c s a (rowOn x (r .end + 1 + 2) (r .content) (x .lines + r .lines))
+    quoted-row n d₁ d₂ k =
+        walking-row after-quotes (r .end + 1) (r .content) (lastLine (x .line) r) (x .lines + r .lines) quoted-ended quoted-leads behind-start (quoted-line .1) (quoted-line .0) quoted-lines quoted-text n d₁ d₂ k
+
+-- nothing passed yet
+pub walking-start :
+    (c : Check) (s : Bytes) (a : ℕ) → Level c s → c .field .number .0 ≤ 4294967295 → a ≤ length s
+    → Walking c s a (record { at = a; line = a; lines = 0; start = a; rows = 0; fields = 0; number = c .field .number .0; text = 0 })
+walking-start c s a l n h =
+    record {
+      level = l;
+      within = h;
+      from = omega arith;
+      line = omega arith;
+      on = omega arith;
+      lines = omega arith;
+      closed = omega arith;
+      text = omega arith;
+      number = omega arith;
+      unmoved = λ e. record { start = refl; line = refl; lines = refl; rows = refl; text = refl; number = refl };
+      plain = omega arith;
+      same = refl;
+    }
+
+-- what is reached by a walk
+pub walked-leads : (c : Check) (s : Bytes) (a : ℕ) (x : Walk) → Walking c s a x → Leading c s a x
+unfolding walked
+walked-leads c s a x w =
+    let o = at-start c s a x w in
+    let from = w .from in
+    let e : x .start + (x .at - x .start) ≡ x .at = omega arith in
+    let d : isPlain (dialect ((begun x a c) .delimiter) ((begun x a c) .leniencies)) ≡ isPlain (dialect (c .delimiter) (c .leniencies)) =
+    ap₂ (λ (y z : ℕ). isPlain (dialect y z)) (o .delimiter) (o .leniencies) in
+    record {
+      on = w .on;
+      line = w .line;
+      from = w .from;
+      within = λ h. w .within;
+      same =
+          ap (λ (i : ℕ). fedAll (texted (x .at - x .start) (begun x a c)) (drop i s)) (sym e)
+          ∙ texted-leads (begun x a c) s (x .start) (x .at - x .start) (o .refusal ∙ w .level .refusal) (o .form) (rw d (w .plain))
+          ∙ w .same;
+    }
+
+-- a walk that has passed nothing leads nowhere else, whatever the state
+pub still-leads : (c : Check) (s : Bytes) (a n : ℕ) → Leading c s a (record { at = a; line = a; lines = 0; start = a; rows = 0; fields = 0; number = n; text = 0 })
+unfolding walked
+still-leads c s a n =
+    let z : a - a ≡ 0 = omega arith in
+    record { on = omega arith; line = omega arith; from = omega arith; within = λ h. h; same = rw z }
+
+-- any two walks lead to the same
+pub one-walk : (c : Check) (s : Bytes) (a : ℕ) (x y : Walk) → Leading c s a x → Leading c s a y → fedAll (walked x a c) (drop (x .at) s) ≡ fedAll (walked y a c) (drop (y .at) s)
+one-walk c s a x y g h = g .same ∙ sym (h .same)
+
+-- from a walk to itself, and to one behind the field that ends at p
+pub stays : (delimiter width : ℕ) (s : Bytes) (x : Walk) → Goes delimiter width s x x
+stays delimiter width s x = record { on = omega arith; goes = λ c d k a w. w }
+
+module _ (delimiter width : ℕ) (s : Bytes) (x : Walk) (h : Sized x s) where
+  module _ (p m j l : ℕ) (field : getD s p 0 ≡ delimiter → Goes delimiter width s x (fieldOn x (p + 1) m j l)) (row : BreakAt s p → x .number + 1 ≡ width → Goes delimiter width s x (rowOn x (p + 2) m l)) where
+    goes-ended : Goes delimiter width s x (endedBy x (endAt delimiter width (x .number) s p) p m j l)
+    goes-ended = delimited (eqb (getD s p 0) delimiter) refl
+      where
+        broken : (y : Bool) → isBreak (drop p s) ≡ y → x .number + 1 ≡ width → Goes delimiter width s x (endedBy x (cond y 2 0) p m j l)
+        broken true e q = row (break-at s p e) q
+        broken false e q = stays delimiter width s x
+
+        last : (y : Bool) → eqb (x .number + 1) width ≡ y → Goes delimiter width s x (endedBy x (cond y (cond (isBreak (drop p s)) 2 0) 0) p m j l)
+        last true e = broken (isBreak (drop p s)) refl (eqb-true (x .number + 1) width e)
+        last false e = stays delimiter width s x
+
+        delimited : (y : Bool) → eqb (getD s p 0) delimiter ≡ y → Goes delimiter width s x (endedBy x (cond y 1 (cond (eqb (x .number + 1) width) (cond (isBreak (drop p s)) 2 0) 0)) p m j l)
+        delimited true e = field (eqb-true (getD s p 0) delimiter e)
+        delimited false e = last (eqb (x .number + 1) width) refl
+
+  fits : (p m l : ℕ) → x .start ≤ p → p < length s → x .text + m ≤ p → l ≤ p → Fits x p m l
+  fits p m l on v t n =
+      record {
+        next = omega (arith, h .short);
+        fields = omega (arith, h .closed, h .short);
+        number = omega (arith, h .number, h .short);
+        rows = omega (arith, h .closed, h .short);
+        text = omega (arith, h .short);
+        lines = omega (arith, h .short);
+      }
+
+  -- a bare field
+  pub goes-bare :
+      x .at - x .start ≤ contentLimit → Goes delimiter width s x (endedBy x (endAt delimiter width (x .number) s (x .at)) (x .at) (x .at - x .start) (x .line) (x .lines))
+  goes-bare l =
+      goes-ended (x .at) (x .at - x .start) (x .line) (x .lines)
+      (λ e. record { on = omega arith; goes = λ c d k a w. bare-field c s a x w l (h .inside) (e ∙ sym d) })
+      (λ e q. record { on = omega arith; goes = λ c d k a w. bare-row c s a x w l (e .inside) (e .first) (e .second) (k ∙ sym q) })
+
+  pub bare-fits : Fits x (x .at) (x .at - x .start) (x .lines)
+  bare-fits = fits (x .at) (x .at - x .start) (x .lines) (h .from) (h .inside) (omega (arith, h .text, h .from)) (omega (arith, h .lines, h .from))
+
+  -- a quoted field from the quote at the walk's place on, with the content r
+  module _ (r : Inside) (b : Between s (x .at + 1) r) (g : Closed s r) where
+    pub goes-quoted :
+        x .at ≡ x .start → getD s (x .at) 0 ≡ 0x22
+        → Goes delimiter width s x (endedBy x (endAt delimiter width (x .number) s (r .end + 1)) (r .end + 1) (r .content) (lastLine (x .line) r) (x .lines + r .lines))
+    goes-quoted here opens =
+        let inside : r .end < length s = omega (arith, g .behind) in
+        goes-ended (r .end + 1) (r .content) (lastLine (x .line) r) (x .lines + r .lines)
+        (λ e. record { on = omega (arith, b .on); goes = λ c d k a w. quoted-field c s a x w here (h .inside) opens r b (g .limit) inside (g .quote) (g .behind) (e ∙ sym d) })
+        (λ e q. record {
+          on = omega (arith, b .on);
+          goes = λ c d k a w. quoted-row c s a x w here (h .inside) opens r b (g .limit) inside (g .quote) (e .inside) (e .first) (e .second) (k ∙ sym q);
+        })
+
+    pub quoted-fits : Fits x (r .end + 1) (r .content) (x .lines + r .lines)
+    quoted-fits =
+        fits (r .end + 1) (r .content) (x .lines + r .lines) (omega (arith, h .from, b .on)) (g .behind) (omega (arith, h .text, h .from, b .content)) (omega (arith, h .lines, h .from, b .lines))

@@ -1,0 +1,7 @@
+pub mod Between
+pub mod Closing
+pub mod Going
+pub mod Jumps
+pub mod Moves
+pub mod Parts
+pub mod Refused

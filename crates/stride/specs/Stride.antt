@@ -1,0 +1,49 @@
+-- What a stride of the second walk asks and promises.
+use Prim.Native.Nat.{ℕ, _+_, _-_, _≤_, _<_}
+use mathlib.Core.Path.{_≡_}
+use mathlib.Core.Bool.{Bool, true, cond}
+use mathlib.Core.List.{List, [], _∷_, _++_}
+use lib.ListN.{length, getD, take, drop}
+use Rattle.format.specs.Table.{Bytes}
+use Rattle.format.specs.Dialect.{Dialect}
+use Rattle.runs.specs.Runs.{run, isPlain, isBreak}
+use Rattle.fill.specs.declared.Head.{Head}
+use Rattle.fill.specs.declared.Field.{Field}
+use Rattle.fill.specs.Put.{behind, endOf}
+use Rattle.fill.specs.Walk.{textAhead, endsAhead, rowsAhead}
+
+-- room for all that is ahead, as numbers of 32 bits; and no more blanks held than bytes passed
+pub record Ample (d : Dialect) (f : Bytes) (p : Head) (text ends rows : List ℕ) : Type 0 where
+  pub text-room : p .text + length (textAhead d f p) ≤ length text
+  pub ends-room : p .ends + length (endsAhead d f p) ≤ length ends
+  pub rows-room : p .rows + length (rowsAhead d f p) ≤ length rows
+  pub text-small : p .text + length (textAhead d f p) ≤ 4294967295
+  pub ends-small : p .ends + length (endsAhead d f p) ≤ 4294967295
+  pub held : p .held ≤ p .at
+
+-- the field in work ends: behind its last w bytes of content its end is n, and the next field begins at a place
+pub record Ends (d : Dialect) (f : Bytes) (p : Head) (w : Bytes) (next : ℕ) (row : Bool) (n : ℕ) : Type 0 where
+  pub further : p .at < next
+  pub inside : next ≤ length f
+  pub text-is : textAhead d f p ≡ w ++ textAhead d f (behind p next row n)
+  pub ends-are : endsAhead d f p ≡ n ∷ endsAhead d f (behind p next row n)
+  pub rows-are : rowsAhead d f p ≡ cond row ((p .ends + 1) ∷ []) [] ++ rowsAhead d f (behind p next row n)
+
+-- at the start of a field that is plain text up to q, where a byte stands
+pub record Plain (d : Dialect) (f : Bytes) (p : Head) (q : ℕ) : Type 0 where
+  pub form : p .form ≡ 0
+  pub held : p .held ≡ 0
+  pub no-lf : d .delimiterByte ≡ 0x0A → ⊥
+  pub from : p .at ≤ q
+  pub inside : q < length f
+  pub so-far : q - p .at ≤ run (isPlain d) (drop (p .at) f)
+
+-- a field ends at a place: by a delimiter, or by a line break of which no byte is the delimiter
+pub data EndAt (f : Bytes) (b at : ℕ) : ℕ → Type 0 where
+  delimits : at < length f → getD f at 0 ≡ b → EndAt f b at 1
+  breaks : isBreak (drop at f) ≡ true → (getD f at 0 ≡ b → ⊥) → EndAt f b at 2
+
+-- what is found at a mark: where it does not end before it begins it is the field in work, if that is plain text up to the mark
+pub record Found (d : Dialect) (f : Bytes) (p : Head) (q : ℕ) (r : Field) : Type 0 where
+  pub further : Plain d f p q → q < r .next
+  pub ends : Plain d f p q → r .from ≤ r .to → Ends d f p (take (r .to - r .from) (drop (r .from) f)) (r .next) (r .row) (endOf p r)
