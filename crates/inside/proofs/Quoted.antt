@@ -2,7 +2,7 @@
 use Prim.Native.Nat.{ℕ, zero, suc, _+_, _-_, _≤_, _<_}
 use native.Mathlib.Numerals.{add-one}
 use native.Mathlib.Omega.{arith}
-use mathlib.Core.Path.{_≡_, refl, ap, _∙_}
+use mathlib.Core.Path.{_≡_, sym, refl, ap, _∙_}
 use mathlib.Core.Bool.{Bool, true, false, cond}
 use mathlib.Core.List.{List, _∷_}
 use lib.Dec.{leb}
@@ -20,6 +20,7 @@ use Rattle.fill.specs.Fill.{textLeft, endsLeft, rowsLeft}
 use Rattle.fill.specs.Walk.{textAhead, endsAhead, rowsAhead, Wrote, NoQuote, Inside, between}
 use Rattle.fill.specs.Put.{copyFits}
 use Rattle.fill.proofs.Grown.{grown-none, grown-from, grown-one, grown-then, grown-size}
+use Rattle.fill.proofs.Left.{text-byte, ends-byte, rows-byte}
 use Rattle.fill.proofs.Copy.{two-at}
 use Rattle.format.proofs.Classes.{quote-beside, LF-inside}
 use Rattle.steps.proofs.Rules.{form-back}
@@ -38,30 +39,24 @@ puts-LF b e d = rw e (inside-puts (d .allows lf) (classOf d 0x0A) (LF-inside d))
 -- one such byte at i
 module _ (d : Dialect) (f : Bytes) (i : ℕ) (v : i < length f) (e : Puts (getD f i 0)) where
   byte-text : textLeft d (drop i f) quoted 0 ≡ getD f i 0 ∷ textLeft d (drop (i + 1) f) quoted 0
-  unfolding textLeft
-  byte-text = rw (add-one, drop-cons f i 0 v, e d)
+  byte-text = rw (add-one, drop-cons f i 0 v, text-byte d, e d)
 
   byte-ends : (n : ℕ) → endsLeft d (drop i f) quoted 0 n true ≡ endsLeft d (drop (i + 1) f) quoted 0 (n + 1) true
-  unfolding endsLeft
-  byte-ends n = let z : n + 0 + 1 ≡ n + 1 = omega arith in rw (add-one i, drop-cons f i 0 v, e d) (ap (λ (k : ℕ). endsLeft d (drop (suc i) f) quoted 0 k true) z)
+  byte-ends n = let z : n + 0 + 1 ≡ n + 1 = omega arith in rw (add-one i, drop-cons f i 0 v, ends-byte d, e d) (ap (λ (k : ℕ). endsLeft d (drop (suc i) f) quoted 0 k true) z)
 
   byte-rows : (m : ℕ) → rowsLeft d (drop i f) quoted m true ≡ rowsLeft d (drop (i + 1) f) quoted m true
-  unfolding rowsLeft
-  byte-rows m = rw (add-one i, drop-cons f i 0 v, e d)
+  byte-rows m = rw (add-one i, drop-cons f i 0 v, rows-byte d, e d)
 
 -- a pair of quotes at i
 module _ (d : Dialect) (o : NoQuote d) (f : Bytes) (i : ℕ) (v : i + 1 < length f) (e₁ : getD f i 0 ≡ 0x22) (e₂ : getD f (i + 1) 0 ≡ 0x22) where
   pair-text : textLeft d (drop i f) quoted 0 ≡ 0x22 ∷ textLeft d (drop (i + 2) f) quoted 0
-  unfolding textLeft
-  pair-text = rw (two-at f i v e₁ e₂, quote-beside d o, quote-shuts (d .allows lf), quote-pairs (d .allows lf))
+  pair-text = rw (two-at f i v e₁ e₂, text-byte d, quote-beside d o, quote-shuts (d .allows lf), text-byte d, quote-beside d o, quote-pairs (d .allows lf))
 
   pair-ends : (n : ℕ) → endsLeft d (drop i f) quoted 0 n true ≡ endsLeft d (drop (i + 2) f) quoted 0 (n + 1) true
-  unfolding endsLeft
-  pair-ends n = let z : n + 0 + 1 ≡ n + 1 = omega arith in rw (two-at f i v e₁ e₂, quote-beside d o, quote-shuts (d .allows lf), quote-pairs (d .allows lf)) (ap (λ (k : ℕ). endsLeft d (drop (i + 2) f) quoted 0 k true) z)
+  pair-ends n = let z : n + 0 + 1 ≡ n + 1 = omega arith in rw (two-at f i v e₁ e₂, ends-byte d, quote-beside d o, quote-shuts (d .allows lf), ends-byte d, quote-beside d o, quote-pairs (d .allows lf)) (ap (λ (k : ℕ). endsLeft d (drop (i + 2) f) quoted 0 k true) z)
 
   pair-rows : (m : ℕ) → rowsLeft d (drop i f) quoted m true ≡ rowsLeft d (drop (i + 2) f) quoted m true
-  unfolding rowsLeft
-  pair-rows m = rw (two-at f i v e₁ e₂, quote-beside d o, quote-shuts (d .allows lf), quote-pairs (d .allows lf))
+  pair-rows m = rw (two-at f i v e₁ e₂, rows-byte d, quote-beside d o, quote-shuts (d .allows lf), rows-byte d, quote-beside d o, quote-pairs (d .allows lf))
 
 -- the start
 pub inside-start : (f : Bytes) (i n : ℕ) (t : Bytes) → i ≤ length f → Inside f i n t i n t
@@ -193,12 +188,10 @@ module _ (f t : Bytes) (i n : ℕ) (v : i < length f) where
 -- from a head between quotes
 module _ (d : Dialect) (f : Bytes) (p : Head) (text ends rows : List ℕ) (v : p .at < length f) (e₁ : p .form ≡ 3) (e₂ : p .held ≡ 0) (o : NoQuote d) where
   ends-any : (u : Bool) (n : ℕ) → endsLeft d (drop (p .at) f) quoted 0 n u ≡ endsLeft d (drop (p .at) f) quoted 0 n true
-  unfolding endsLeft
-  ends-any u n = rw (drop-cons f (p .at) 0 v)
+  ends-any u n = rw (drop-cons f (p .at) 0 v) (ends-byte d (getD f (p .at) 0) _ quoted 0 n u ∙ sym (ends-byte d (getD f (p .at) 0) _ quoted 0 n true))
 
   rows-any : (u : Bool) (n : ℕ) → rowsLeft d (drop (p .at) f) quoted n u ≡ rowsLeft d (drop (p .at) f) quoted n true
-  unfolding rowsLeft
-  rows-any u n = rw (drop-cons f (p .at) 0 v)
+  rows-any u n = rw (drop-cons f (p .at) 0 v) (rows-byte d (getD f (p .at) 0) _ quoted n u ∙ sym (rows-byte d (getD f (p .at) 0) _ quoted n true))
 
   module _ {i n : ℕ} {text′ : Bytes} (g : Inside f (p .at) (p .text) text i n text′) where
     text-is : textAhead d f p ≡ textLeft d (drop (p .at) f) quoted 0

@@ -2,7 +2,7 @@
 use Prim.Native.Nat.{ℕ, zero, suc, _+_, _-_, _≤_, _<_, min}
 use native.Mathlib.Omega.{arith}
 use mathlib.Core.Path.{_≡_, refl, sym, ap, ap₂, _∙_}
-use mathlib.Core.Bool.{Bool, true, false, cond}
+use mathlib.Core.Bool.{Bool, true, false, cond, not}
 use lib.Dec.{eqb, eqb·suc-zero}
 use lib.ListN.{length, getD, drop}
 use borrow.Author.Tests.{eqb-true, eqb-false, ne-eqb}
@@ -17,9 +17,9 @@ use Rattle.state.specs.declared.Check.{Check}
 use Rattle.spans.specs.declared.Inside.{Inside}
 use Rattle.spans.specs.declared.Walk.{Walk}
 use Rattle.places.specs.Counters.{counterLimit, plus, along, spot}
-use Rattle.state.specs.Check.{fed, fedAll, jumped}
+use Rattle.state.specs.Check.{newField, opened, placed, noting, fed, fedAll, jumped}
 use Rattle.state.specs.Settled.{Settled}
-use Rattle.spans.specs.Walk.{Between, lastLine, Level, placedAt, fieldOn, rowOn, opening, begun, texted, walked, Closed, endAt, endedBy, Fits, Sized, Walking, Goes, Leading}
+use Rattle.spans.specs.Walk.{Between, lastLine, Level, placedAt, fieldOn, rowOn, startOf, tallied, opening, begun, texted, walked, Closed, endAt, endedBy, Fits, Sized, Walking, Goes, Leading}
 use Rattle.places.proofs.Counting.{plus-counted, along-along, spot-further, spot-flat, spot-lines}
 use Rattle.state.proofs.Jumps.{shut-step, text-leap}
 use Rattle.state.proofs.Between.{fed-at}
@@ -420,6 +420,19 @@ walking-start c s a l n h =
       plain = omega arith;
       same = refl;
     }
+
+-- the state that a walk comes to, in parts
+pub walked-is : (x : Walk) (a : ℕ) (c : Check) → walked x a c ≡ texted (x .at - x .start) (begun x a c)
+unfolding walked
+walked-is x a c = refl
+
+pub opening-is :
+    (x : Walk) (a : ℕ) (c : Check)
+    → opening x a c
+    ≡ placed (startOf x a (c .here))
+    (opened (noting (not (eqb (x .number) 0)) 0) (c .used) (newField (startOf x a (c .here)) (min (x .number) counterLimit)) (tallied x (c .counts)) c)
+unfolding opening
+opening-is x a c = refl
 
 -- what is reached by a walk
 pub walked-leads : (c : Check) (s : Bytes) (a : ℕ) (x : Walk) → Walking c s a x → Leading c s a x

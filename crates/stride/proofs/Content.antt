@@ -18,12 +18,14 @@ use Rattle.runs.proofs.Runs.{run-within, BreakAt, break-at}
 use Rattle.format.proofs.Classes.{delimiter-at, quote-beside, CR-beside, LF-beside}
 use Rattle.runs.proofs.Bytes.{plain-class}
 use Rattle.fill.specs.declared.Head.{Head}
+use Rattle.fill.specs.declared.Field.{Field}
 use Rattle.fill.specs.Fill.{textLeft, endsLeft, rowsLeft}
+use Rattle.fill.specs.Put.{endOf}
 use Rattle.fill.specs.Walk.{NoQuote}
 use Rattle.fill.proofs.Left.{text-byte, ends-byte, rows-byte}
 use Rattle.fill.proofs.Copy.{text-run, ends-run, rows-run, two-at}
 use Rattle.inside.proofs.Quoted.{puts-inner}
-use Rattle.stride.specs.Stride.{Ends, EndAt, delimits, breaks}
+use Rattle.stride.specs.Stride.{Ends, EndAt, delimits, breaks, Plain, Found}
 
 -- a form in which a field may end
 pub record Ending (y : Bool) (k : Form) : Type 0 where
@@ -192,3 +194,9 @@ module _ (d : Dialect) (f : Bytes) (p : Head) (e₁ : p .form ≡ 0) (e₂ : p .
   pub ends-at : (d .delimiterByte ≡ 0x0A → ⊥) → {n : ℕ} → EndAt f (d .delimiterByte) e n → Ends d f p (take k (drop c f)) (e + n) (eqb n 2) (p .text + k)
   ends-at z (delimits v q) = ends-field v q
   ends-at z (breaks q g) = let b = break-at f e q in ends-record (record { here = b; no-cr = λ x. g (b .first ∙ sym x); no-lf = z })
+
+-- any two fields that are found end at one place of the text
+pub one-found :
+    {d : Dialect} {f : Bytes} {p : Head} {q : ℕ} {r s : Field} → Found d f p q r → Found d f p q s → Plain d f p q → r .from ≤ r .to → s .from ≤ s .to
+    → endOf p r ≡ endOf p s
+one-found g h o l m = ap (λ (e : List ℕ). getD e 0 0) (sym (g .ends o l .ends-are) ∙ h .ends o m .ends-are)

@@ -6,7 +6,7 @@ use lib.Dec.{eqb}
 use borrow.Author.Tests.{eq-eqb, ne-eqb}
 use Rattle.places.proofs.Counting.{plus-none}
 use Rattle.state.proofs.Parts.{opened-is}
-use Rattle.spans.specs.Walk.{opening}
+use Rattle.spans.proofs.Passing.{opening-is}
 use borrow.Author.Needs.{needs}
 use Rattle.passes.proofs.opening.Statement.{statement}
 use Rattle.passes.proofs.opening.Tie as tie
@@ -40,7 +40,6 @@ nowhere-requires : tie.Need-nowhere-requires
 nowhere-requires c κs = search needs
 
 returns : tie.Need-returns
-unfolding opening
 returns c =
     let a = c .before .before .before .before .before .before .before .before .before .before .before .args in
     rw (
@@ -51,6 +50,7 @@ returns c =
       c .before .before .before .before .before .plus2 .ensures,
       c .before .before .before .before .before .before .plus .ensures,
       c .before .before .before .before .before .before .before .spot .ensures,
+      opening-is,
       plus-none,
       opened-is,
     )

@@ -1,5 +1,5 @@
 -- `passes::walked` meets its contract.
-use Rattle.spans.specs.Walk.{walked}
+use Rattle.spans.proofs.Passing.{walked-is}
 use borrow.Author.Needs.{needs}
 use Rattle.passes.proofs.walked.Statement.{statement}
 use Rattle.passes.proofs.walked.Tie as tie
@@ -14,8 +14,7 @@ texted-requires : tie.Need-texted-requires
 texted-requires c κs = search needs
 
 returns : tie.Need-returns
-unfolding walked
-returns c = rw (c .texted .ensures, c .before .before .begun-by .ensures)
+returns c = rw (walked-is, c .texted .ensures, c .before .before .begun-by .ensures)
 
 pub walked-spec : {M : Type 1} → statement M
 walked-spec = tie.close (tie.spec begun-by-requires sub-texted texted-requires returns)
