@@ -5,6 +5,7 @@
 ghost use lib.ListN.{length, drop};
 ghost use mathlib.Core.Bool.{true};
 ghost use mathlib.Core.Path.{_≡_};
+ghost use Rattle.format.specs.Place.{place};
 ghost use Rattle.places.specs.Counters.{along};
 ghost use Rattle.state.specs.Check.{entered, placed, fed, jumped};
 ghost use Rattle.pieces.specs.Asked.{bitIf, totalled, settledAnswer};
@@ -25,11 +26,7 @@ use state::Used;
 pub fn start(delimiter: u8, leniencies: u8) -> Check
     ensures { λ r. ⌜ Started delimiter leniencies r ⌝ }
 {
-    let here = Place {
-        line: Line(1),
-        column: Column(1),
-        byte: ByteOffset(0),
-    };
+    let here = first_place();
     let mark = places::nowhere();
     let used = Used {
         lf: 0,
@@ -62,6 +59,16 @@ pub fn start(delimiter: u8, leniencies: u8) -> Check
         field,
         counts,
     }
+}
+
+// The place of a file's first byte.
+fn first_place() -> Place
+    ensures { λ r. ⌜ r ≡ place 1 1 0 ⌝ }
+{
+    let line = Line(1);
+    let column = Column(1);
+    let byte = ByteOffset(0);
+    Place { line, column, byte }
 }
 
 // The state behind one more piece: as many bytes as can be passed at once, then one, and so on. The last
