@@ -90,8 +90,18 @@ opened-none c s a x l u f =
     all : (k : ℕ) → k ≡ a + k - a
     all k = omega arith
 
--- what is known of the state g where the field in work ends, at p, with m bytes of content, on a line that begins at j and behind l line feeds
-pub record Ended (c : Check) (a : ℕ) (x : Walk) (g : Check) (p m j l : ℕ) : Type 0 where
+-- where a field ends: the place, the length of its content, where its line begins, and the line feeds passed
+pub record Stop : Type 0 where
+  pub at : ℕ
+  pub content : ℕ
+  pub line : ℕ
+  pub lines : ℕ
+
+abbrev pub stopAt : ℕ → ℕ → ℕ → ℕ → Stop
+stopAt p m j l = record { at = p; content = m; line = j; lines = l }
+
+-- what is known of the state g where the field in work ends
+pub record Ended (c : Check) (a : ℕ) (x : Walk) (g : Check) (z : Stop) : Type 0 where
   pub form : Form
   pub ending : Ending g form
   pub refusal : g .refusal ≡ c .refusal
@@ -101,9 +111,9 @@ pub record Ended (c : Check) (a : ℕ) (x : Walk) (g : Check) (p m j l : ℕ) : 
   pub width : g .counts .width ≡ c .counts .width
   pub records : g .counts .records ≡ plus (c .counts .records) (x .rows)
   pub fields : plus (g .counts .fields .0) 1 ≡ plus (c .counts .fields .0) (x .fields + 1)
-  pub text : plus (g .counts .text) (g .field .content) ≡ plus (c .counts .text) (x .text + m)
+  pub text : plus (g .counts .text) (g .field .content) ≡ plus (c .counts .text) (x .text + z .content)
   pub number : plus (g .field .number .0) 1 ≡ min (x .number + 1) counterLimit
-  pub ahead : (k : ℕ) → along (k + 1) (g .here) ≡ spot l (p + (k + 1) - j) (p + (k + 1) - a) (c .here)
+  pub ahead : (k : ℕ) → along (k + 1) (g .here) ≡ spot (z .lines) (z .at + (k + 1) - z .line) (z .at + (k + 1) - a) (c .here)
 
 -- the start of a field, by its parts
 abbrev opens : Check → Used → Place → ℕ → ℕ → ℕ → ℕ → ℕ → ℕ → Check
@@ -114,22 +124,22 @@ same-opens :
     → opens c v p b n r f t w ≡ opens c v′ p′ b′ n′ r′ f′ t′ w′
 same-opens c v v′ p p′ b b′ n n′ r r′ f f′ t t′ w w′ e₁ e₂ e₃ e₄ e₅ e₆ e₇ e₈ = rw (e₁, e₂, e₃, e₄, e₅, e₆, e₇, e₈)
 
-module _ (c : Check) (a : ℕ) (x : Walk) (g : Check) (p m j l : ℕ) (h : Ended c a x g p m j l) (on : a ≤ p) (no-lf : c .delimiter ≡ 0x0A → ⊥) where
-  one-on : along 1 (g .here) ≡ spot l (p + 1 - j) (p + 1 - a) (c .here)
+module _ (c : Check) (a : ℕ) (x : Walk) (g : Check) (z : Stop) (h : Ended c a x g z) (on : a ≤ z .at) (no-lf : c .delimiter ≡ 0x0A → ⊥) where
+  one-on : along 1 (g .here) ≡ spot (z .lines) (z .at + 1 - z .line) (z .at + 1 - a) (c .here)
   one-on = h .ahead 0
 
   -- by the delimiter
-  pub field-end : (b : ℕ) → b ≡ c .delimiter → fed g b ≡ opening (fieldOn x (p + 1) m j l) a c
+  pub field-end : (b : ℕ) → b ≡ c .delimiter → fed g b ≡ opening (fieldOn x (z .at + 1) (z .content) (z .line) (z .lines)) a c
   unfolding opening
   field-end b e =
       let n = moved b (g .here) in
-      let next : n ≡ spot l (p + 1 - j) (p + 1 - a) (c .here) = moved-along b (g .here) (ne-eqb b 0x0A (λ q. no-lf (sym e ∙ q))) ∙ one-on in
+      let next : n ≡ spot (z .lines) (z .at + 1 - z .line) (z .at + 1 - a) (c .here) = moved-along b (g .here) (ne-eqb b 0x0A (λ q. no-lf (sym e ∙ q))) ∙ one-on in
       field-closed g (h .form) (h .ending) b (e ∙ sym (h .delimiter))
       ∙ opened-from n 1 (g .used) (newField n (plus (g .field .number .0) 1)) (oneField (g .field .content) (g .counts)) g c (h .delimiter) (h .leniencies) (h .refusal)
-      ∙ same-opens c (g .used) (c .used) n (spot l (p + 1 - j) (p + 1 - a) (c .here)) 1 (noting (not (eqb (x .number + 1) 0)) 0)
+      ∙ same-opens c (g .used) (c .used) n (spot (z .lines) (z .at + 1 - z .line) (z .at + 1 - a) (c .here)) 1 (noting (not (eqb (x .number + 1) 0)) 0)
       (plus (g .field .number .0) 1) (min (x .number + 1) counterLimit)
       (g .counts .records) (plus (c .counts .records) (x .rows)) (plus (g .counts .fields .0) 1) (plus (c .counts .fields .0) (x .fields + 1))
-      (plus (g .counts .text) (g .field .content)) (plus (c .counts .text) (x .text + m)) (g .counts .width) (c .counts .width)
+      (plus (g .counts .text) (g .field .content)) (plus (c .counts .text) (x .text + z .content)) (g .counts .width) (c .counts .width)
       (h .used) next (rw (ne-eqb (x .number + 1) 0 (λ q. omega arith))) (h .number) (h .records) (h .fields) (h .text) (h .width)
 
   -- by a line break
@@ -139,16 +149,16 @@ module _ (c : Check) (a : ℕ) (x : Walk) (g : Check) (p m j l : ℕ) (h : Ended
         let few : min (x .number + 1) counterLimit ≡ c .counts .width = omega arith in
         h .number ∙ few ∙ sym (h .width)
 
-    next-line : moved 0x0A (moved 0x0D (g .here)) ≡ spot (l + 1) (p + 2 - (p + 2)) (p + 2 - a) (c .here)
+    next-line : moved 0x0A (moved 0x0D (g .here)) ≡ spot (z .lines + 1) (z .at + 2 - (z .at + 2)) (z .at + 2 - a) (c .here)
     next-line =
         ap (moved 0x0A) (moved-along 0x0D (g .here) refl ∙ one-on)
-        ∙ spot-line l (p + 1 - j) (p + 1 - a) (c .here)
-        ∙ ap₂ (λ (t n : ℕ). spot (l + 1) t n (c .here)) none bytes
+        ∙ spot-line (z .lines) (z .at + 1 - z .line) (z .at + 1 - a) (c .here)
+        ∙ ap₂ (λ (t n : ℕ). spot (z .lines + 1) t n (c .here)) none bytes
       where
-        none : 0 ≡ p + 2 - (p + 2)
+        none : 0 ≡ z .at + 2 - (z .at + 2)
         none = omega arith
 
-        bytes : p + 1 - a + 1 ≡ p + 2 - a
+        bytes : z .at + 1 - a + 1 ≡ z .at + 2 - a
         bytes = omega arith
 
     kept-width : cond (eqb (g .counts .width) 0) (g .counts .width) (g .counts .width) ≡ c .counts .width
@@ -158,13 +168,13 @@ module _ (c : Check) (a : ℕ) (x : Walk) (g : Check) (p m j l : ℕ) (h : Ended
         by true = refl
         by false = refl
 
-    pub row-end : fed (fed g 0x0D) 0x0A ≡ opening (rowOn x (p + 2) m l) a c
+    pub row-end : fed (fed g 0x0D) 0x0A ≡ opening (rowOn x (z .at + 2) (z .content) (z .lines)) a c
     unfolding opening
     row-end =
         let n = moved 0x0A (moved 0x0D (g .here)) in
         row-closed g (h .form) (h .ending) as-wide (λ q. no-cr (sym (h .delimiter) ∙ q)) (λ q. no-lf (sym (h .delimiter) ∙ q))
         ∙ opened-from n 0 (g .used) (newField n 0) (oneRecord (g .field .content) (g .counts .width) (g .counts)) g c (h .delimiter) (h .leniencies) (h .refusal)
-        ∙ same-opens c (g .used) (c .used) n (spot (l + 1) (p + 2 - (p + 2)) (p + 2 - a) (c .here)) 0 0 0 (min 0 counterLimit)
+        ∙ same-opens c (g .used) (c .used) n (spot (z .lines + 1) (z .at + 2 - (z .at + 2)) (z .at + 2 - a) (c .here)) 0 0 0 (min 0 counterLimit)
         (plus (g .counts .records) 1) (plus (c .counts .records) (x .rows + 1)) (plus (g .counts .fields .0) 1) (plus (c .counts .fields .0) (x .fields + 1))
-        (plus (g .counts .text) (g .field .content)) (plus (c .counts .text) (x .text + m)) (cond (eqb (g .counts .width) 0) (g .counts .width) (g .counts .width)) (c .counts .width)
+        (plus (g .counts .text) (g .field .content)) (plus (c .counts .text) (x .text + z .content)) (cond (eqb (g .counts .width) 0) (g .counts .width) (g .counts .width)) (c .counts .width)
         (h .used) next-line refl (omega arith) (ap (λ (r : ℕ). plus r 1) (h .records) ∙ plus-plus (c .counts .records) (x .rows) 1) (h .fields) (h .text) kept-width

@@ -1,3 +1,4 @@
+pub mod Contents
 pub mod Fields
 pub mod Passing
 pub mod Quoted

@@ -1,211 +1,37 @@
 -- A walk over fields and records goes on: over text, over the end of a bare or a quoted field, and over the end of a record.
-use Prim.Native.Nat.{ℕ, zero, suc, _+_, _-_, _≤_, _<_, min}
+use Prim.Native.Nat.{ℕ, _+_, _-_, _≤_, _<_, min}
 use native.Mathlib.Omega.{arith}
 use mathlib.Core.Path.{_≡_, refl, sym, ap, ap₂, _∙_}
 use mathlib.Core.Bool.{Bool, true, false, cond, not}
-use lib.Dec.{eqb, eqb·suc-zero}
+use lib.Dec.{eqb}
 use lib.ListN.{length, getD, drop}
 use borrow.Author.Tests.{eqb-true, eqb-false, ne-eqb}
-use Rattle.format.specs.declared.Place.{Place}
 use Rattle.format.specs.Table.{Bytes}
 use Rattle.format.specs.Dialect.{dialect}
 use Rattle.format.specs.House.{contentLimit}
-use Rattle.steps.specs.Steps.{start, bare, shut}
+use Rattle.steps.specs.Steps.{start}
 use Rattle.runs.specs.Runs.{run, isPlain, isBreak}
 use Rattle.runs.proofs.Runs.{run-join, run-within, BreakAt, break-at}
 use Rattle.state.specs.declared.Check.{Check}
 use Rattle.spans.specs.declared.Inside.{Inside}
 use Rattle.spans.specs.declared.Walk.{Walk}
-use Rattle.places.specs.Counters.{counterLimit, plus, along, spot}
-use Rattle.state.specs.Check.{newField, opened, placed, noting, fed, fedAll, jumped}
-use Rattle.state.specs.Settled.{Settled}
+use Rattle.places.specs.Counters.{counterLimit, spot}
+use Rattle.state.specs.Check.{newField, opened, placed, noting, fed, fedAll}
 use Rattle.spans.specs.Walk.{Between, lastLine, Level, placedAt, fieldOn, rowOn, startOf, tallied, opening, begun, texted, walked, Closed, endAt, endedBy, Fits, Sized, Walking, Goes, Leading}
-use Rattle.places.proofs.Counting.{plus-counted, along-along, spot-further, spot-flat, spot-lines}
-use Rattle.state.proofs.Jumps.{shut-step, text-leap}
+use Rattle.places.proofs.Counting.{spot-flat, spot-lines}
 use Rattle.state.proofs.Between.{fed-at}
-use Rattle.state.proofs.Parts.{entered-is, jumped-is}
-use Rattle.state.proofs.Closing.{quote-opened}
-use Rattle.spans.proofs.Fields.{Opened, opened-some, opened-none, Ended, field-end, row-end}
+use Rattle.spans.proofs.Fields.{Opened, Stop, stopAt, Ended, field-end, row-end}
+use Rattle.spans.proofs.Contents.{at-start, behind-quotes, closes, content-is, content-read, opens-quote, quotes-ended, text-ended, texted-leads, within-quotes, within-settled}
 
--- the start of the field in work
-pub at-start : (c : Check) (s : Bytes) (a : ℕ) (x : Walk) → Walking c s a x → Opened c a x (begun x a c)
-at-start c s a x w = go (eqb (x .fields) 0) refl
-  where
-    go : (y : Bool) → eqb (x .fields) 0 ≡ y → Opened c a x (cond y c (opening x a c))
-    go true e = let f = eqb-true (x .fields) 0 e in opened-none c s a x (w .level) (w .unmoved f) f
-    go false e = opened-some c a x (w .line) (let q = w .line in omega (arith, w .on))
-
--- m bytes of text behind it
-texted-some : (m : ℕ) (e : Check) → texted (suc m) e ≡ jumped 2 (along (suc m) (e .here)) (suc m) e
-texted-some m e = rw (eqb·suc-zero m)
-
-pub texted-leads :
-    (e : Check) (s : Bytes) (i m : ℕ) → e .refusal ≡ 0 → e .form ≡ 0 → m ≤ run (isPlain (dialect (e .delimiter) (e .leniencies))) (drop i s)
-    → fedAll (texted m e) (drop (i + m) s) ≡ fedAll e (drop i s)
-texted-leads e s i zero r f h = let z : i + 0 ≡ i = omega arith in rw z
-texted-leads e s i (suc m) r f h =
-    ap (λ (g : Check). fedAll g (drop (i + suc m) s)) (texted-some m e) ∙ text-leap s i (suc m) e (omega arith) r (omega arith) h
-
-module _ (c : Check) (a : ℕ) (x : Walk) (e : Check) (o : Opened c a x e) (calm : c .refusal ≡ 0) where
-  quiet : e .refusal ≡ 0
-  quiet = o .refusal ∙ calm
-
-  small : (m n k : ℕ) → n ≡ 0 → k ≡ 0 → m ≤ contentLimit → plus (plus n k) m ≤ contentLimit
-  small m n k e₁ e₂ l = omega arith
-
-  weighs : (t m n k : ℕ) → n ≡ 0 → k ≡ 0 → plus t (plus (plus n k) m) ≡ plus t m
-  weighs t m n k e₁ e₂ = ap (plus t) (whole n k e₁ e₂) ∙ plus-counted t m
-    where
-      whole : (n k : ℕ) → n ≡ 0 → k ≡ 0 → plus (plus n k) m ≡ min m counterLimit
-      whole n k e₁ e₂ = omega arith
-
-  -- a bare field ends
-  jump-ended : (m : ℕ) → suc m ≤ contentLimit → Ended c a x (jumped 2 (along (suc m) (e .here)) (suc m) e) (x .start + suc m) (suc m) (x .line) (x .lines)
-  jump-ended m l =
-      rw jumped-is
-      (record {
-        form = bare;
-        ending = record { refusal = quiet; form = refl; ends = tt; held = refl; content = small (suc m) (e .field .content) (e .field .held) (o .content) (o .held) l };
-        refusal = o .refusal;
-        delimiter = o .delimiter;
-        leniencies = o .leniencies;
-        used = o .used;
-        width = o .width;
-        records = o .records;
-        fields = o .fields;
-        text = weighs (e .counts .text) (suc m) (e .field .content) (e .field .held) (o .content) (o .held) ∙ o .text (suc m);
-        number = o .number;
-        ahead = λ k. along-along (suc m) (k + 1) (e .here) ∙ o .ahead (suc m + (k + 1)) ∙ ap₂ (λ (t n : ℕ). spot (x .lines) t n (c .here)) (ap (λ (n : ℕ). n - x .line) (joins k)) (ap (λ (n : ℕ). n - a) (joins k));
-      })
-    where
-      joins : (k : ℕ) → x .start + (suc m + (k + 1)) ≡ x .start + suc m + (k + 1)
-      joins k = omega arith
-
-  pub text-ended : (m : ℕ) → m ≤ contentLimit → Ended c a x (texted m e) (x .start + m) m (x .line) (x .lines)
-  text-ended zero l =
-      record {
-        form = start;
-        ending = record { refusal = quiet; form = o .form; ends = tt; held = o .held; content = let z = o .content in omega arith };
-        refusal = o .refusal;
-        delimiter = o .delimiter;
-        leniencies = o .leniencies;
-        used = o .used;
-        width = o .width;
-        records = o .records;
-        fields = o .fields;
-        text = ap (plus (e .counts .text)) (o .content) ∙ o .text 0;
-        number = o .number;
-        ahead = λ k. o .ahead (k + 1) ∙ ap₂ (λ (t n : ℕ). spot (x .lines) t n (c .here)) (ap (λ (n : ℕ). n + (k + 1) - x .line) stays) (ap (λ (n : ℕ). n + (k + 1) - a) stays);
-      }
-    where
-      stays : x .start ≡ x .start + 0
-      stays = omega arith
-  text-ended (suc m) l = rw (texted-some m e) (jump-ended m l)
-
-  -- a quoted field: behind the opening quote, behind m bytes of content, and behind the closing quote
-  module _ (other : c .delimiter ≡ 0x22 → ⊥) where
-    pub within-quotes : Check
-    within-quotes =
-        record {
-          delimiter = e .delimiter;
-          leniencies = e .leniencies;
-          refusal = e .refusal;
-          form = 3;
-          begun = 1;
-          used = e .used;
-          here = along 1 (e .here);
-          mark = e .here;
-          field = e .field;
-          counts = e .counts;
-        }
-
-    no-quote : e .delimiter ≡ 0x22 → ⊥
-    no-quote q = other (sym (o .delimiter) ∙ q)
-
-    pub opens-quote : fed e 0x22 ≡ within-quotes
-    unfolding within-quotes
-    opens-quote = quote-opened e quiet (o .form) no-quote ∙ entered-is (along 1 (e .here)) 3 (e .here) (e .used) (e .field) e
-
-    pub within-settled : Settled within-quotes
-    unfolding within-quotes
-    within-settled =
-        record {
-          refusal = quiet;
-          form = refl;
-          other = no-quote;
-          begun = refl;
-          held = o .held;
-          content = let z = o .content in omega arith;
-          line = o .line;
-          column = low (e .here .column .0);
-          byte = low (e .here .byte .0);
-        }
-      where
-        low : (n : ℕ) → plus n 1 ≤ counterLimit
-        low n = omega arith
-
-    module _ (l t n m : ℕ) where
-      pub content-read : Check
-      content-read =
-          record {
-            delimiter = e .delimiter;
-            leniencies = e .leniencies;
-            refusal = e .refusal;
-            form = 3;
-            begun = 1;
-            used = e .used;
-            here = spot l t n (along 1 (e .here));
-            mark = e .here;
-            field = record { start = e .field .start; content = plus (plus (e .field .content) (e .field .held)) m; held = 0; number = e .field .number };
-            counts = e .counts;
-          }
-
-      pub content-is : jumped 3 (spot l t n (within-quotes .here)) m within-quotes ≡ content-read
-      unfolding content-read within-quotes
-      content-is = jumped-is 3 (spot l t n (along 1 (e .here))) m within-quotes
-
-      pub behind-quotes : Check
-      behind-quotes =
-          record {
-            delimiter = e .delimiter;
-            leniencies = e .leniencies;
-            refusal = e .refusal;
-            form = 4;
-            begun = 1;
-            used = e .used;
-            here = along 1 (spot l t n (along 1 (e .here)));
-            mark = e .here;
-            field = record { start = e .field .start; content = plus (plus (e .field .content) (e .field .held)) m; held = 0; number = e .field .number };
-            counts = e .counts;
-          }
-
-      pub closes : fed content-read 0x22 ≡ behind-quotes
-      unfolding behind-quotes content-read
-      closes = shut-step content-read quiet refl no-quote ∙ entered-is (along 1 (content-read .here)) 4 (content-read .mark) (content-read .used) (content-read .field) content-read
-
-      -- the place behind the closing quote
-      module _ (z : ℕ) (ends : x .start + 1 + n ≡ z) (j : ℕ) (on-line : spot l t n (spot (x .lines) (x .start + 1 - x .line) (x .start + 1 - a) (c .here)) ≡ spot (x .lines + l) (z - j) (z - a) (c .here)) (line-in : j ≤ z) (on : a ≤ z) where
-        place-is : along 1 (spot l t n (along 1 (e .here))) ≡ spot (x .lines + l) (z + 1 - j) (z + 1 - a) (c .here)
-        place-is =
-            ap (λ (p : Place). along 1 (spot l t n p)) (o .ahead 1) ∙ ap (along 1) on-line ∙ spot-further (x .lines + l) z j a 1 (c .here) line-in on
-
-        pub quotes-ended : m ≤ contentLimit → Ended c a x behind-quotes (z + 1) m j (x .lines + l)
-        unfolding behind-quotes
-        quotes-ended q =
-            record {
-              form = shut;
-              ending = record { refusal = quiet; form = refl; ends = tt; held = refl; content = small m (e .field .content) (e .field .held) (o .content) (o .held) q };
-              refusal = o .refusal;
-              delimiter = o .delimiter;
-              leniencies = o .leniencies;
-              used = o .used;
-              width = o .width;
-              records = o .records;
-              fields = o .fields;
-              text = weighs (e .counts .text) m (e .field .content) (e .field .held) (o .content) (o .held) ∙ o .text m;
-              number = o .number;
-              ahead = λ k. ap (along (k + 1)) place-is ∙ spot-further (x .lines + l) (z + 1) j a (k + 1) (c .here) (omega arith) (omega arith);
-            }
+-- a state where the field in work ends, to which the bytes of the field lead
+record Stopped (c : Check) (s : Bytes) (a : ℕ) (x : Walk) (g : Check) (z : Stop) : Type 0 where
+  ended : Ended c a x g z
+  leads : fedAll g (drop (z .at) s) ≡ fedAll (begun x a c) (drop (x .start) s)
+  on : x .start ≤ z .at
+  line : z .line ≤ z .at
+  from : a ≤ z .line
+  lines : z .lines ≤ z .at
+  text : x .text + z .content ≤ z .at
 
 -- a walk from a place to one further on
 module _ (c : Check) (s : Bytes) (a : ℕ) (x : Walk) (w : Walking c s a x) where
@@ -229,14 +55,14 @@ module _ (c : Check) (s : Bytes) (a : ℕ) (x : Walk) (w : Walking c s a x) wher
       }
 
   -- the state at the end of the field
-  module _ (g : Check) (p m j l : ℕ) (h : Ended c a x g p m j l) (leads : fedAll g (drop p s) ≡ fedAll (begun x a c) (drop (x .start) s)) (on : x .start ≤ p) (line : j ≤ p) (from : a ≤ j) (lines : l ≤ p) (text : x .text + m ≤ p) where
+  module _ (g : Check) (z : Stop) (h : Stopped c s a x g z) where
     some : (n : ℕ) → eqb (n + 1) 0 ≡ false
     some n = ne-eqb (n + 1) 0 (λ e. omega arith)
 
-    far : a ≤ p
+    far : a ≤ z .at
     far = omega arith
 
-    pub walking-field : p < length s → getD s p 0 ≡ c .delimiter → Walking c s a (fieldOn x (p + 1) m j l)
+    walking-field : z .at < length s → getD s (z .at) 0 ≡ c .delimiter → Walking c s a (fieldOn x (z .at + 1) (z .content) (z .line) (z .lines))
     walking-field v e =
         let closed = w .closed in
         let number = w .number in
@@ -245,7 +71,7 @@ module _ (c : Check) (s : Bytes) (a : ℕ) (x : Walk) (w : Walking c s a x) wher
           within = omega arith;
           from = omega arith;
           line = omega arith;
-          on = from;
+          on = h .from;
           lines = omega arith;
           closed = omega arith;
           text = omega arith;
@@ -253,16 +79,16 @@ module _ (c : Check) (s : Bytes) (a : ℕ) (x : Walk) (w : Walking c s a x) wher
           unmoved = λ q. absurd (omega arith);
           plain = omega arith;
           same =
-              ap (λ (y : Bool). fedAll (cond y c (opening (fieldOn x (p + 1) m j l) a c)) (drop (p + 1) s)) (some (x .fields))
-              ∙ ap (λ (y : Check). fedAll y (drop (p + 1) s)) (sym (field-end c a x g p m j l h far (w .level .no-lf) (getD s p 0) e))
-              ∙ fed-at g s p v ∙ leads ∙ w .same;
+              ap (λ (y : Bool). fedAll (cond y c (opening (fieldOn x (z .at + 1) (z .content) (z .line) (z .lines)) a c)) (drop (z .at + 1) s)) (some (x .fields))
+              ∙ ap (λ (y : Check). fedAll y (drop (z .at + 1) s)) (sym (field-end c a x g z (h .ended) far (w .level .no-lf) (getD s (z .at) 0) e))
+              ∙ fed-at g s (z .at) v ∙ h .leads ∙ w .same;
         }
 
-    pub walking-row :
-        p + 1 < length s → getD s p 0 ≡ 0x0D → getD s (p + 1) 0 ≡ 0x0A → c .counts .width ≡ x .number + 1 → Walking c s a (rowOn x (p + 2) m l)
+    walking-row :
+        z .at + 1 < length s → getD s (z .at) 0 ≡ 0x0D → getD s (z .at + 1) 0 ≡ 0x0A → c .counts .width ≡ x .number + 1 → Walking c s a (rowOn x (z .at + 2) (z .content) (z .lines))
     walking-row v e₁ e₂ q =
         let closed = w .closed in
-        let two : p + 1 + 1 ≡ p + 2 = omega arith in
+        let two : z .at + 1 + 1 ≡ z .at + 2 = omega arith in
         record {
           level = w .level;
           within = omega arith;
@@ -276,13 +102,13 @@ module _ (c : Check) (s : Bytes) (a : ℕ) (x : Walk) (w : Walking c s a x) wher
           unmoved = λ q. absurd (omega arith);
           plain = omega arith;
           same =
-              ap (λ (y : Bool). fedAll (cond y c (opening (rowOn x (p + 2) m l) a c)) (drop (p + 2) s)) (some (x .fields))
-              ∙ ap (λ (y : Check). fedAll y (drop (p + 2) s)) (sym (row-end c a x g p m j l h far (w .level .no-lf) (w .level .no-cr) q (w .level .width)))
+              ap (λ (y : Bool). fedAll (cond y c (opening (rowOn x (z .at + 2) (z .content) (z .lines)) a c)) (drop (z .at + 2) s)) (some (x .fields))
+              ∙ ap (λ (y : Check). fedAll y (drop (z .at + 2) s)) (sym (row-end c a x g z (h .ended) far (w .level .no-lf) (w .level .no-cr) q (w .level .width)))
               ∙ ap (λ (i : ℕ). fedAll (fed (fed g 0x0D) 0x0A) (drop i s)) (sym two)
-              ∙ ap (λ (b : ℕ). fedAll (fed (fed g 0x0D) b) (drop (p + 1 + 1) s)) (sym e₂)
-              ∙ fed-at (fed g 0x0D) s (p + 1) v
-              ∙ ap (λ (b : ℕ). fedAll (fed g b) (drop (p + 1) s)) (sym e₁)
-              ∙ fed-at g s p (omega arith) ∙ leads ∙ w .same;
+              ∙ ap (λ (b : ℕ). fedAll (fed (fed g 0x0D) b) (drop (z .at + 1 + 1) s)) (sym e₂)
+              ∙ fed-at (fed g 0x0D) s (z .at + 1) v
+              ∙ ap (λ (b : ℕ). fedAll (fed g b) (drop (z .at + 1) s)) (sym e₁)
+              ∙ fed-at g s (z .at) (omega arith) ∙ h .leads ∙ w .same;
         }
 
   -- a bare field ends where the walk stands
@@ -293,7 +119,7 @@ module _ (c : Check) (s : Bytes) (a : ℕ) (x : Walk) (w : Walking c s a x) wher
     ends-here : Check
     ends-here = texted (x .at - x .start) (begun x a c)
 
-    bare-ended : Ended c a x ends-here (x .at) (x .at - x .start) (x .line) (x .lines)
+    bare-ended : Ended c a x ends-here (stopAt (x .at) (x .at - x .start) (x .line) (x .lines))
     unfolding ends-here
     bare-ended = rw stands at (text-ended c a x (begun x a c) (at-start c s a x w) (w .level .refusal) (x .at - x .start) l)
 
@@ -306,22 +132,25 @@ module _ (c : Check) (s : Bytes) (a : ℕ) (x : Walk) (w : Walking c s a x) wher
         ap (λ (i : ℕ). fedAll (texted (x .at - x .start) (begun x a c)) (drop i s)) (sym stands)
         ∙ texted-leads (begun x a c) s (x .start) (x .at - x .start) (o .refusal ∙ w .level .refusal) (o .form) (rw d (w .plain))
 
-    line-here : x .line ≤ x .at
-    line-here = omega (arith, w .line, w .from)
-
-    lines-here : x .lines ≤ x .at
-    lines-here = omega (arith, w .lines, w .from)
-
-    text-here : x .text + (x .at - x .start) ≤ x .at
-    text-here = omega (arith, w .text, w .from)
+    bare-stopped : Stopped c s a x ends-here (stopAt (x .at) (x .at - x .start) (x .line) (x .lines))
+    bare-stopped =
+        record {
+          ended = bare-ended;
+          leads = bare-leads;
+          on = w .from;
+          line = omega (arith, w .line, w .from);
+          from = w .on;
+          lines = omega (arith, w .lines, w .from);
+          text = omega (arith, w .text, w .from);
+        }
 
     pub bare-field : x .at < length s → getD s (x .at) 0 ≡ c .delimiter → Walking c s a (fieldOn x (x .at + 1) (x .at - x .start) (x .line) (x .lines))
-    bare-field v e = walking-field ends-here (x .at) (x .at - x .start) (x .line) (x .lines) bare-ended bare-leads (w .from) line-here (w .on) lines-here text-here v e
+    bare-field v e = walking-field ends-here (stopAt (x .at) (x .at - x .start) (x .line) (x .lines)) bare-stopped v e
 
     pub bare-row :
         x .at + 1 < length s → getD s (x .at) 0 ≡ 0x0D → getD s (x .at + 1) 0 ≡ 0x0A → c .counts .width ≡ x .number + 1
         → Walking c s a (rowOn x (x .at + 2) (x .at - x .start) (x .lines))
-    bare-row v e₁ e₂ q = walking-row ends-here (x .at) (x .at - x .start) (x .line) (x .lines) bare-ended bare-leads (w .from) line-here (w .on) lines-here text-here v e₁ e₂ q
+    bare-row v e₁ e₂ q = walking-row ends-here (stopAt (x .at) (x .at - x .start) (x .line) (x .lines)) bare-stopped v e₁ e₂ q
 
   -- a quoted field begins where the walk stands, and its content ends at r
   module _ (here : x .at ≡ x .start) (v : x .at < length s) (e : getD s (x .at) 0 ≡ 0x22) (r : Inside) (b : Between s (x .at + 1) r) (l : r .content ≤ contentLimit) (u : r .end < length s) (q : getD s (r .end) 0 ≡ 0x22) where
@@ -357,7 +186,7 @@ module _ (c : Check) (s : Bytes) (a : ℕ) (x : Walk) (w : Walking c s a x) wher
     far-on : a ≤ r .end
     far-on = omega (arith, w .on, w .line, w .from, b .on)
 
-    quoted-ended : Ended c a x after-quotes (r .end + 1) (r .content) (lastLine (x .line) r) (x .lines + r .lines)
+    quoted-ended : Ended c a x after-quotes (stopAt (r .end + 1) (r .content) (lastLine (x .line) r) (x .lines + r .lines))
     unfolding after-quotes
     quoted-ended =
         quotes-ended c a x (begun x a c) o (w .level .refusal) (w .level .no-quote) (r .lines) (r .tail) (r .end - (x .at + 1)) (r .content) (r .end) bytes-are
@@ -379,27 +208,26 @@ module _ (c : Check) (s : Bytes) (a : ℕ) (x : Walk) (w : Walking c s a x) wher
         ∙ fed-at f s (x .at) v
         ∙ ap (λ (i : ℕ). fedAll f (drop i s)) here
 
-    quoted-text : x .text + r .content ≤ r .end + 1
-    quoted-text = omega (arith, w .text, here, b .content)
-
-    quoted-lines : x .lines + r .lines ≤ r .end + 1
-    quoted-lines = omega (arith, w .lines, here, b .lines)
-
-    behind-start : x .start ≤ r .end + 1
-    behind-start = omega (arith, here, b .on)
-
-    quoted-line : (a ≤ lastLine (x .line) r) × (lastLine (x .line) r ≤ r .end + 1)
-    quoted-line = let h = line-from (eqb (r .lines) 0) refl in (h .0, omega (arith, h .1))
+    quoted-stopped : Stopped c s a x after-quotes (stopAt (r .end + 1) (r .content) (lastLine (x .line) r) (x .lines + r .lines))
+    quoted-stopped =
+        let h = line-from (eqb (r .lines) 0) refl in
+        record {
+          ended = quoted-ended;
+          leads = quoted-leads;
+          on = omega (arith, here, b .on);
+          line = omega (arith, h .1);
+          from = h .0;
+          lines = omega (arith, w .lines, here, b .lines);
+          text = omega (arith, w .text, here, b .content);
+        }
 
     pub quoted-field : r .end + 1 < length s → getD s (r .end + 1) 0 ≡ c .delimiter → Walking c s a (fieldOn x (r .end + 1 + 1) (r .content) (lastLine (x .line) r) (x .lines + r .lines))
-    quoted-field n d =
-        walking-field after-quotes (r .end + 1) (r .content) (lastLine (x .line) r) (x .lines + r .lines) quoted-ended quoted-leads behind-start (quoted-line .1) (quoted-line .0) quoted-lines quoted-text n d
+    quoted-field n d = walking-field after-quotes (stopAt (r .end + 1) (r .content) (lastLine (x .line) r) (x .lines + r .lines)) quoted-stopped n d
 
     pub quoted-row :
         r .end + 1 + 1 < length s → getD s (r .end + 1) 0 ≡ 0x0D → getD s (r .end + 1 + 1) 0 ≡ 0x0A → c .counts .width ≡ x .number + 1
         → Walking c s a (rowOn x (r .end + 1 + 2) (r .content) (x .lines + r .lines))
-    quoted-row n d₁ d₂ k =
-        walking-row after-quotes (r .end + 1) (r .content) (lastLine (x .line) r) (x .lines + r .lines) quoted-ended quoted-leads behind-start (quoted-line .1) (quoted-line .0) quoted-lines quoted-text n d₁ d₂ k
+    quoted-row n d₁ d₂ k = walking-row after-quotes (stopAt (r .end + 1) (r .content) (lastLine (x .line) r) (x .lines + r .lines)) quoted-stopped n d₁ d₂ k
 
 -- nothing passed yet
 pub walking-start :

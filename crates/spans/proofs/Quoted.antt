@@ -17,7 +17,7 @@ use Rattle.places.specs.Counters.{spot}
 use Rattle.state.specs.Check.{fedAll, jumped}
 use Rattle.state.specs.Settled.{Settled}
 use Rattle.state.proofs.Jumps.{fed-join}
-use Rattle.state.proofs.Between.{inner-start, inner-line, inner-more, inner-pairs}
+use Rattle.state.proofs.Between.{Passage, inner-start, inner-line, inner-more, inner-pairs}
 use Rattle.spans.specs.declared.Inside.{Inside}
 use Rattle.spans.specs.Walk.{Between, Within, runOn, Further}
 
@@ -57,6 +57,9 @@ module _ (s : Bytes) (n at : ℕ) (r : Inside) (g : Between (take n s) at r) whe
             ∙ sym (further-in c at (omega (arith, g .on, g .within)));
       }
 
+abbrev passage : ℕ → Inside → Passage
+passage at x = record { from = at; end = x .end; lines = x .lines; tail = x .tail; content = x .content }
+
 module _ (s : Bytes) (at : ℕ) (x : Inside) (g : Between s at x) where
   pub between-run : (k : ℕ) → k ≤ run isInner (drop (x .end) s) → Between s at (runOn x k)
   between-run k h =
@@ -67,7 +70,7 @@ module _ (s : Bytes) (at : ℕ) (x : Inside) (g : Between s at x) where
         lines = omega (arith, g .lines);
         tail = omega (arith, g .tail);
         flat = λ z. omega (arith, g .flat z);
-        same = λ c q. inner-more c s at (x .end) (x .lines) (x .tail) (x .content) q (g .on) (g .same c q) k h;
+        same = λ c q. inner-more c s (passage at x) q (g .on) (g .same c q) k h;
       }
 
   pub between-line :
@@ -80,7 +83,7 @@ module _ (s : Bytes) (at : ℕ) (x : Inside) (g : Between s at x) where
         lines = omega (arith, g .lines);
         tail = omega (arith, g .on);
         flat = λ q. absurd (omega arith);
-        same = λ c q. inner-line c s at (x .end) (x .lines) (x .tail) (x .content) q (g .on) (g .same c q) v e;
+        same = λ c q. inner-line c s (passage at x) q (g .on) (g .same c q) v e;
       }
 
   pub between-pairs :
@@ -94,7 +97,7 @@ module _ (s : Bytes) (at : ℕ) (x : Inside) (g : Between s at x) where
         lines = omega (arith, g .lines);
         tail = omega (arith, g .tail);
         flat = λ z. omega (arith, g .flat z);
-        same = λ c u. inner-pairs c s at (x .end) (x .lines) (x .tail) (x .content) u (g .on) (g .same c u) q (omega (arith, e));
+        same = λ c u. inner-pairs c s (passage at x) u (g .on) (g .same c u) q (omega (arith, e));
       }
 
 -- by a line feed or pairs, from any place before

@@ -55,11 +55,19 @@ settled-none c h =
     kept : (a b : ℕ) → a ≤ counterLimit → b ≡ 0 → plus (plus a b) 0 ≡ a
     kept a b l e = omega arith
 
--- the bytes of f from at to i, l line feeds among them and t bytes behind the last, are content of m bytes
-abbrev pub Inner : Check → Bytes → ℕ → ℕ → ℕ → ℕ → ℕ → Type 0
-Inner c f at i l t m = fedAll (jumped 3 (spot l t (i - at) (c .here)) m c) (drop i f) ≡ fedAll c (drop at f)
+-- bytes from a place to another, the line feeds among them and the bytes behind the last, or all; and how much content they are
+pub record Passage : Type 0 where
+  pub from : ℕ
+  pub end : ℕ
+  pub lines : ℕ
+  pub tail : ℕ
+  pub content : ℕ
 
-pub inner-start : (c : Check) (f : Bytes) (at : ℕ) → Settled c → Inner c f at at 0 0 0
+-- such bytes of f are one jump from the state c
+abbrev pub Inner : Check → Bytes → Passage → Type 0
+Inner c f u = fedAll (jumped 3 (spot (u .lines) (u .tail) (u .end - u .from) (c .here)) (u .content) c) (drop (u .end) f) ≡ fedAll c (drop (u .from) f)
+
+pub inner-start : (c : Check) (f : Bytes) (at : ℕ) → Settled c → Inner c f (record { from = at; end = at; lines = 0; tail = 0; content = 0 })
 inner-start c f at h =
     let z : at - at ≡ 0 = omega arith in
     ap (λ (n : ℕ). fedAll (jumped 3 (spot 0 0 n (c .here)) 0 c) (drop at f)) z ∙ ap (λ (e : Check). fedAll e (drop at f)) (settled-none c h)
@@ -84,21 +92,36 @@ pub fed-at : (c : Check) (f : Bytes) (i : ℕ) → i < length f → fedAll (fed 
 unfolding fedAll
 fed-at c f i h = rw (add-one, drop-cons f i 0)
 
-module _ (c : Check) (f : Bytes) (at i l t m : ℕ) (h : Settled c) (on : at ≤ i) (g : Inner c f at i l t m) where
+module _ (c : Check) (f : Bytes) (u : Passage) (h : Settled c) (on : u .from ≤ u .end) (g : Inner c f u) where
+  abbrev at : ℕ
+  at = u .from
+
+  abbrev i : ℕ
+  i = u .end
+
+  abbrev l : ℕ
+  l = u .lines
+
+  abbrev t : ℕ
+  t = u .tail
+
+  abbrev m : ℕ
+  m = u .content
+
   now : Check
   now = jumped 3 (spot l t (i - at) (c .here)) m c
 
   -- a jump from there
   onward :
       (j l′ t′ x : ℕ) (p : Place) → p ≡ spot l′ t′ (j - at) (c .here) → fedAll (jumped 3 p x now) (drop j f) ≡ fedAll now (drop i f)
-      → Inner c f at j l′ t′ (m + x)
+      → Inner c f (record { from = at; end = j; lines = l′; tail = t′; content = m + x })
   unfolding now
   onward j l′ t′ x p e q =
       ap (λ (p : Place). fedAll (jumped 3 p (m + x) c) (drop j f)) (sym e)
       ∙ ap (λ (e : Check). fedAll e (drop j f)) (sym (jump-jump 3 3 p (spot l t (i - at) (c .here)) x m c))
       ∙ q ∙ g
 
-  pub inner-line : i < length f → getD f i 0 ≡ 0x0A → Inner c f at (i + 1) (l + 1) 0 (m + 1)
+  pub inner-line : u .end < length f → getD f (u .end) 0 ≡ 0x0A → Inner c f (record { from = u .from; end = u .end + 1; lines = u .lines + 1; tail = 0; content = u .content + 1 })
   unfolding now
   inner-line v e =
       let p = spot l t (i - at) (c .here) in
@@ -109,7 +132,9 @@ module _ (c : Check) (f : Bytes) (at i l t m : ℕ) (h : Settled c) (on : at ≤
       ∙ ap (λ (b : ℕ). fedAll (fed now b) (drop (i + 1) f)) (sym e)
       ∙ fed-at now f i v)
 
-  pub inner-more : (k : ℕ) → k ≤ run isInner (drop i f) → Inner c f at (i + k) l (t + k) (m + k)
+  pub inner-more :
+      (k : ℕ) → k ≤ run isInner (drop (u .end) f)
+      → Inner c f (record { from = u .from; end = u .end + k; lines = u .lines; tail = u .tail + k; content = u .content + k })
   unfolding now
   inner-more zero q =
       let x : i + 0 ≡ i = omega arith in
@@ -123,7 +148,9 @@ module _ (c : Check) (f : Bytes) (at i l t m : ℕ) (h : Settled c) (on : at ≤
       (ap (λ (q : Place). fedAll (jumped 3 (along (suc k) q) (suc k) now) (drop (i + suc k) f)) (sym (here-is p m c))
       ∙ inner-leap f i (suc k) now (omega arith) (calm p m c (h .refusal)) (inside-form p m c) q)
 
-  pub inner-pairs : (k : ℕ) → k ≤ pairs (drop i f) → Inner c f at (i + (k + k)) l (t + (k + k)) (m + k)
+  pub inner-pairs :
+      (k : ℕ) → k ≤ pairs (drop (u .end) f)
+      → Inner c f (record { from = u .from; end = u .end + (k + k); lines = u .lines; tail = u .tail + (k + k); content = u .content + k })
   unfolding now
   inner-pairs zero q =
       let x : i + (0 + 0) ≡ i = omega arith in
