@@ -2,7 +2,6 @@
 //
 // The state goes in and comes back by value. What a byte does to it is in the crate `state`, what many do
 // at once in `passes`; specs/Answers.antt says what a state stands for, and so what the answers mean.
-ghost use lib.ListN.{length, drop};
 ghost use mathlib.Core.Bool.{true};
 ghost use mathlib.Core.Path.{_≡_};
 ghost use Rattle.format.specs.Place.{place};

@@ -2,7 +2,7 @@
 //
 // A state is turned into a walk, the walk goes on by words of marks, and only where it ends is it turned
 // into a state again. specs/Walk.antt says what a walk stands for.
-ghost use Prim.Native.Nat.{_+_, _-_, _≤_, _<_};
+ghost use Prim.Native.Nat.{_+_, _≤_, _<_};
 ghost use mathlib.Core.Bool.{true};
 ghost use mathlib.Core.Path.{_≡_};
 ghost use Rattle.format.specs.Dialect.{dialect};

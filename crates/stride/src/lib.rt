@@ -4,16 +4,15 @@
 // ahead, and its specs/Walk.antt what it means to have written it from one place to another.
 ghost use mathlib.Core.Path.{_≡_};
 ghost use mathlib.Core.Bool.{true, false, cond};
-ghost use Prim.Native.Nat.{ℕ, _+_, _-_, _<_, _≤_};
-ghost use mathlib.Core.List.{List};
+ghost use Prim.Native.Nat.{_+_, _<_, _≤_};
 ghost use lib.Dec.{ltb};
-ghost use lib.ListN.{length, getD, set, replicate, drop};
+ghost use lib.ListN.{length, getD, set, replicate};
 ghost use lib.Seq.{sets};
 ghost use Rattle.format.specs.Dialect.{lf, names, dialect, classOf};
 ghost use Rattle.steps.specs.Steps.{stepOf};
 ghost use Rattle.steps.specs.Numbers.{formOf, actOf};
 ghost use Rattle.fill.specs.Walk.{Wrote};
-ghost use Rattle.stride.specs.Stride.{Ample, Plain, EndAt, Found};
+ghost use Rattle.stride.specs.Stride.{Ample, EndAt, Found};
 use fill::Field;
 use fill::Head;
 use steps::Stepped;
