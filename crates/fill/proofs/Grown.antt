@@ -1,6 +1,5 @@
 -- The laws of a buffer that was written on, over any type of element, and of a walk that wrote.
-use Prim.Native.Nat.{ℕ, suc, _+_, _≤_, _<_}
-use native.Mathlib.Nat.{add-zero, add-suc, suc-add}
+use Prim.Native.Nat.{ℕ, _+_, _≤_, _<_}
 use native.Mathlib.Omega.{arith}
 use mathlib.Core.Path.{_≡_, refl, sym, ap, _∙_}
 use mathlib.Core.List.{List, [], _∷_, _++_, append-assoc}
@@ -9,7 +8,7 @@ use lib.Seq.{sets, length-sets}
 use Rattle.format.specs.Table.{Bytes}
 use Rattle.format.specs.Dialect.{Dialect}
 use Rattle.format.specs.Filling.{Onward}
-use Rattle.format.proofs.Filling.{move, pushes}
+use Rattle.format.proofs.Filling.{move, pushes, sets-append}
 use Rattle.fill.specs.declared.Head.{Head}
 use Rattle.fill.specs.Walk.{Grown, Wrote}
 
@@ -28,10 +27,6 @@ module _ {A : Type 0} where
 
   pub grown-from : {buf rest rest₀ buf′ rest′ : List A} {at at′ : ℕ} → rest₀ ≡ rest → Grown buf at rest buf′ at′ rest′ → Grown buf at rest₀ buf′ at′ rest′
   grown-from e g = record { new = g .new; rest-is = e ∙ g .rest-is; room = g .room; buf-is = g .buf-is; at-is = g .at-is }
-
-  sets-append : (xs rest buf : List A) (at : ℕ) → sets buf at (xs ++ rest) ≡ sets (sets buf at xs) (at + length xs) rest
-  sets-append [] rest buf at = rw add-zero
-  sets-append (x ∷ xs) rest buf at = rw (add-suc, ← suc-add) (sets-append xs rest (set buf at x) (suc at))
 
   -- the buffer keeps its length, and its place stays in it
   pub grown-size : {buf rest buf′ rest′ : List A} {at at′ : ℕ} → Grown buf at rest buf′ at′ rest′ → length buf′ ≡ length buf

@@ -38,7 +38,7 @@ module _ {A : Type 0} where
   pub push : {buf rest : List A} {at : ℕ} {x : A} → Onward buf at (x ∷ rest) (set buf at x) (at + 1) rest
   push full f = record { room = simp length-set (omega (arith, f .room)); fills = rw add-one (f .fills) }
 
-  sets-append : (xs rest buf : List A) (at : ℕ) → sets buf at (xs ++ rest) ≡ sets (sets buf at xs) (at + length xs) rest
+  pub sets-append : (xs rest buf : List A) (at : ℕ) → sets buf at (xs ++ rest) ≡ sets (sets buf at xs) (at + length xs) rest
   sets-append [] rest buf at = rw add-zero
   sets-append (x ∷ xs) rest buf at = rw (add-suc, ← suc-add) (sets-append xs rest (set buf at x) (suc at))
 
