@@ -12,7 +12,7 @@ use Rattle.format.specs.Memory.{lengths, textOf, endsOf, rowsOf}
 use Rattle.format.proofs.Classes.{blank-is}
 use Rattle.format.proofs.Memory.{lengths-none, lengths-more}
 use Rattle.steps.specs.Steps.{Form, start, lead, bare, quoted, shut, tail, cr, nothing, put, hold, drop, field-end, record-end, Act, refuse, go, stepOf}
-use Rattle.steps.specs.Model.{Cell, Trace, refused, last, field, line, change, putting, dropping, keptIn, holding, mark, doing, closing, run, Judged, declined, taken, Width, any, settled, agrees, beside, above, fits, judge, read}
+use Rattle.steps.specs.Model.{Cell, Trace, refused, last, field, line, change, putting, dropping, keptIn, holding, anchor, doing, closing, run, Judged, declined, taken, Width, any, settled, agrees, beside, above, fits, judge, read}
 use Rattle.steps.proofs.Acts.{HeldBlank, held-blank, run-end, run-byte}
 use Rattle.steps.proofs.Limits.{read-none, read-some}
 use Rattle.steps.proofs.Tallies.{Some, some-judge}
@@ -136,18 +136,18 @@ module _ (d : Dialect) where
       → textBy a h b (λ j i. textLeft d f j i) ≡ textAhead h (flow (doing a k b f p (λ j q. run d f j q)))
   unfolding flatten textLeft
   text-act (refuse n) k b f p h o ih c = absurd c
-  text-act (go j nothing) k b f p h o ih c = ih j (mark k j (b ∷ f) p) h c
+  text-act (go j nothing) k b f p h o ih c = ih j (anchor k j (b ∷ f) p) h c
   text-act (go j put) k b f p h o ih c =
-      let q = mark k j (b ∷ f) p in
+      let q = anchor k j (b ∷ f) p in
       let r = run d f j q in
       let s = clean-change (putting b) r c in
       ap (λ (l : Bytes). replicate h 0x20 ++ (b ∷ l)) (ih j q 0 s) ∙ sym (text-put h b r s)
   text-act (go j hold) k b f p h o ih c =
-      let q = mark k j (b ∷ f) p in
+      let q = anchor k j (b ∷ f) p in
       let r = run d f j q in
       ih j q (h + 1) (clean-change (holding b) r c) ∙ text-hold h b r (blank-is d b o .0)
   text-act (go j drop) k b f p h o ih c =
-      let q = mark k j (b ∷ f) p in
+      let q = anchor k j (b ∷ f) p in
       let r = run d f j q in
       ih j q h (clean-change dropping r c) ∙ ap (textAhead h) (sym (flow-drop r))
   text-act (go j field-end) k b f p h o ih c = ih start [] 0 c ∙ text-start (flow (run d f start []))
@@ -197,17 +197,17 @@ module _ (d : Dialect) where
       → endsBy a h n (λ j i m v. endsLeft d f j i m v) ≡ endsAhead n h (flow (doing a k b f p (λ j q. run d f j q)))
   unfolding endsLeft
   ends-act (refuse i) k b f p h n ih c = absurd c
-  ends-act (go j nothing) k b f p h n ih c = ih j (mark k j (b ∷ f) p) h n true c
+  ends-act (go j nothing) k b f p h n ih c = ih j (anchor k j (b ∷ f) p) h n true c
   ends-act (go j put) k b f p h n ih c =
-      let q = mark k j (b ∷ f) p in
+      let q = anchor k j (b ∷ f) p in
       let r = run d f j q in
       ih j q 0 (n + h + 1) true (clean-change (putting b) r c) ∙ ends-put n h b r
   ends-act (go j hold) k b f p h n ih c =
-      let q = mark k j (b ∷ f) p in
+      let q = anchor k j (b ∷ f) p in
       let r = run d f j q in
       ih j q (h + 1) n true (clean-change (holding b) r c) ∙ ends-hold n h b r
   ends-act (go j drop) k b f p h n ih c =
-      let q = mark k j (b ∷ f) p in
+      let q = anchor k j (b ∷ f) p in
       let r = run d f j q in
       ih j q h n true (clean-change dropping r c) ∙ ap (endsAhead n h) (sym (flow-drop r))
   ends-act (go j field-end) k b f p h n ih c = ap (λ (l : List ℕ). n ∷ l) (ih start [] 0 n true c ∙ ends-start n (flow (run d f start [])))
@@ -244,16 +244,16 @@ module _ (d : Dialect) where
       → rowsBy a n (λ j m v. rowsLeft d f j m v) ≡ rowsAhead n (doing a k b f p (λ j q. run d f j q))
   unfolding rowsLeft
   rows-act (refuse i) k b f p n ih c = absurd c
-  rows-act (go j nothing) k b f p n ih c = ih j (mark k j (b ∷ f) p) n true c
-  rows-act (go j put) k b f p n ih c = inside (putting b) j (mark k j (b ∷ f) p) c
+  rows-act (go j nothing) k b f p n ih c = ih j (anchor k j (b ∷ f) p) n true c
+  rows-act (go j put) k b f p n ih c = inside (putting b) j (anchor k j (b ∷ f) p) c
     where
       inside : (φ : Cell → Cell) (j : Form) (q : Bytes) → Clean (change φ (run d f j q)) → rowsLeft d f j n true ≡ rowsAhead n (change φ (run d f j q))
       inside φ j q c = ih j q n true (clean-change φ (run d f j q) c) ∙ rows-change n φ (run d f j q)
   rows-act (go j hold) k b f p n ih c =
-      let q = mark k j (b ∷ f) p in
+      let q = anchor k j (b ∷ f) p in
       ih j q n true (clean-change (holding b) (run d f j q) c) ∙ rows-change n (holding b) (run d f j q)
   rows-act (go j drop) k b f p n ih c =
-      let q = mark k j (b ∷ f) p in
+      let q = anchor k j (b ∷ f) p in
       ih j q n true (clean-change dropping (run d f j q) c) ∙ rows-change n dropping (run d f j q)
   rows-act (go j field-end) k b f p n ih c = ih start [] (n + 1) true c
   rows-act (go j record-end) k b [] p n ih c = refl

@@ -53,9 +53,9 @@ module _ {A : Type 0} where
         at-is = omega (arith, both, g .at-is, h .at-is);
       }
 
-  -- so whatever the buffer was to be in full, it is still to be
+  -- so whatever the buffer was to be in target, it is still to be
   pub grown-onward : {buf rest buf′ rest′ : List A} {at at′ : ℕ} → Grown buf at rest buf′ at′ rest′ → Onward buf at rest buf′ at′ rest′
-  grown-onward g full w = rw (g .buf-is, g .at-is) (pushes (g .new) full (move (g .rest-is) w))
+  grown-onward g target w = rw (g .buf-is, g .at-is) (pushes (g .new) target (move (g .rest-is) w))
 
 -- the walk stays; it goes on
 pub wrote-none : {d : Dialect} {f : Bytes} {p : Head} {text ends rows : List ℕ} → Wrote d f p text ends rows p text ends rows

@@ -11,7 +11,7 @@ use Rattle.format.specs.Table.{Bytes, Content, lastOf}
 use Rattle.format.specs.Dialect.{blanks, bytes, Dialect, strict, Class, text, blank, delimiter, quote, CR, LF, forbidden, classOf, delimits, isPrintable, isWide}
 use Rattle.format.specs.Grammar.{padded, Inside}
 use Rattle.format.specs.Rfc4180.{Textdata}
-use Rattle.format.specs.Written.{isMark}
+use Rattle.format.specs.WrittenForms.{isSpecial}
 
 -- a byte that the leniency "blanks" drops at the ends of a bare field
 abbrev pub droppable : Dialect → ℕ → Bool
@@ -23,9 +23,9 @@ pub data View (d : Dialect) (b : ℕ) : Class → Type 0 where
   is-quote : b ≡ 0x22 → View d b quote
   is-CR : b ≡ 0x0D → View d b CR
   is-LF : b ≡ 0x0A → View d b LF
-  is-blank : b ≡ 0x20 → T (d .allows blanks) → isMark d b ≡ false → View d b blank
-  is-text : isMark d b ≡ false → droppable d b ≡ false → View d b text
-  is-forbidden : isMark d b ≡ false → View d b forbidden
+  is-blank : b ≡ 0x20 → T (d .allows blanks) → isSpecial d b ≡ false → View d b blank
+  is-text : isSpecial d b ≡ false → droppable d b ≡ false → View d b text
+  is-forbidden : isSpecial d b ≡ false → View d b forbidden
 
 -- a test, with what it says
 pub decide : {A : Type 0} (P : A → Type 0) (x : Bool) {u v : A} → (x ≡ true → P u) → (x ≡ false → P v) → P (cond x u v)
@@ -47,7 +47,7 @@ view d b =
     decide P (eqb b 0x22) (λ e. is-quote (eqb-true b 0x22 e)) λ e₂.
     decide P (eqb b 0x0D) (λ e. is-CR (eqb-true b 0x0D e)) λ e₃.
     decide P (eqb b 0x0A) (λ e. is-LF (eqb-true b 0x0A e)) λ e₄.
-    let mark : isMark d b ≡ false = simp (e₁, e₂, e₃, e₄) in
+    let mark : isSpecial d b ≡ false = simp (e₁, e₂, e₃, e₄) in
     decide P (eqb b 0x20)
     (λ e. decide P (d .allows blanks) (λ k. is-blank (eqb-true b 0x20 e) (rw k tt) mark) (λ k. is-text mark (rw k)))
     λ e₅.
@@ -85,39 +85,39 @@ module _ (d : Dialect) (b : ℕ) where
       go : View d b blank → (b ≡ 0x20) × T (d .allows blanks)
       go (is-blank q t m) = (q, t)
 
-  pub text-unmarked : classOf d b ≡ text → (isMark d b ≡ false) × (droppable d b ≡ false)
-  text-unmarked e = go (rw e at (view d b))
+  pub text-ordinary : classOf d b ≡ text → (isSpecial d b ≡ false) × (droppable d b ≡ false)
+  text-ordinary e = go (rw e at (view d b))
     where
-      go : View d b text → (isMark d b ≡ false) × (droppable d b ≡ false)
+      go : View d b text → (isSpecial d b ≡ false) × (droppable d b ≡ false)
       go (is-text m n) = (m, n)
 
-  pub blank-unmarked : classOf d b ≡ blank → (isMark d b ≡ false) × (droppable d b ≡ true)
-  blank-unmarked e = go (rw e at (view d b))
+  pub blank-ordinary : classOf d b ≡ blank → (isSpecial d b ≡ false) × (droppable d b ≡ true)
+  blank-ordinary e = go (rw e at (view d b))
     where
       on : (x : Bool) → T x → (x && true) ≡ true
       on true t = refl
       on false t = absurd t
 
-      go : View d b blank → (isMark d b ≡ false) × (droppable d b ≡ true)
+      go : View d b blank → (isSpecial d b ≡ false) × (droppable d b ≡ true)
       go (is-blank q t m) = (m, rw q (on (d .allows blanks) t))
 
--- the classes of marks
-abbrev pub marks : Class → Bool
-marks text = false
-marks blank = false
-marks delimiter = true
-marks quote = true
-marks CR = true
-marks LF = true
-marks forbidden = false
+-- the classes of specialClass
+abbrev pub specialClass : Class → Bool
+specialClass text = false
+specialClass blank = false
+specialClass delimiter = true
+specialClass quote = true
+specialClass CR = true
+specialClass LF = true
+specialClass forbidden = false
 
-pub mark-class : (d : Dialect) (b : ℕ) → isMark d b ≡ marks (classOf d b)
-mark-class d b = go (view d b)
+pub special-class : (d : Dialect) (b : ℕ) → isSpecial d b ≡ specialClass (classOf d b)
+special-class d b = go (view d b)
   where
     same : (n : ℕ) → eqb n n ≡ true
     same n = eq-eqb n n refl
 
-    go : {x : Class} → View d b x → isMark d b ≡ marks x
+    go : {x : Class} → View d b x → isSpecial d b ≡ specialClass x
     go (is-delimiter q) = rw (q, same (d .delimiterByte))
     go (is-quote q) = rw (q, or-true (eqb 0x22 (d .delimiterByte)))
     go (is-CR q) = rw (q, or-true (eqb 0x0D (d .delimiterByte)))
@@ -144,14 +144,6 @@ module _ (d : Dialect) (valid : T (delimits (d .delimiterByte))) where
   unfolding classOf
   class-LF = rw (other-byte 0x0A (λ z. z))
 
-  pub class-blank : T (d .allows blanks) → classOf d 0x20 ≡ blank
-  unfolding classOf
-  class-blank t = rw (other-byte 0x20 (λ z. z)) (on (d .allows blanks) t)
-    where
-      on : (x : Bool) → T x → cond x blank text ≡ blank
-      on true t = refl
-      on false t = absurd t
-
 pub class-delimiter : (d : Dialect) → classOf d (d .delimiterByte) ≡ delimiter
 unfolding classOf
 class-delimiter d = go (eqb (d .delimiterByte) (d .delimiterByte)) _ (eqb-refl (d .delimiterByte))
@@ -177,12 +169,12 @@ pub LF-beside : (d : Dialect) → (d .delimiterByte ≡ 0x0A → ⊥) → classO
 unfolding classOf
 LF-beside d e = rw (ne-eqb 0x0A (d .delimiterByte) (λ q. e (sym q)))
 
-unmarked : (x q c l : Bool) → (x || (q || (c || l))) ≡ false → (x ≡ false) × (q ≡ false) × (c ≡ false) × (l ≡ false)
-unmarked true q c l e = absurd (true≢false e)
-unmarked false true c l e = absurd (true≢false e)
-unmarked false false true l e = absurd (true≢false e)
-unmarked false false false true e = absurd (true≢false e)
-unmarked false false false false e = (refl, refl, refl, refl)
+ordinary : (x q c l : Bool) → (x || (q || (c || l))) ≡ false → (x ≡ false) × (q ≡ false) × (c ≡ false) × (l ≡ false)
+ordinary true q c l e = absurd (true≢false e)
+ordinary false true c l e = absurd (true≢false e)
+ordinary false false true l e = absurd (true≢false e)
+ordinary false false false true e = absurd (true≢false e)
+ordinary false false false false e = (refl, refl, refl, refl)
 
 -- every dialect has a byte of text
 pub some-text : (d : Dialect) → (b : ℕ) × (classOf d b ≡ text)
@@ -193,13 +185,13 @@ some-text d = go (eqb 0x21 (d .delimiterByte)) refl
     go true e = (0x23, rw (← eqb-true 0x21 (d .delimiterByte) e))
     go false e = (0x21, rw e)
 
--- what a byte that is not forbidden may stand in: bare, where it is no mark; between quotes, where it is no quote
-module _ (d : Dialect) (b : ℕ) (held : classOf d b ≡ forbidden → ⊥) where
-  pub bare-byte : isMark d b ≡ false → (classOf d b ≡ text) ⊎ (classOf d b ≡ blank)
+-- what a byte that is not forbidden may stand in: bare, where it is not special; between quotes, where it is no quote
+module _ (d : Dialect) (b : ℕ) (free : classOf d b ≡ forbidden → ⊥) where
+  pub bare-byte : isSpecial d b ≡ false → (classOf d b ≡ text) ⊎ (classOf d b ≡ blank)
   bare-byte e = go (classOf d b) refl (view d b)
     where
       m : (eqb b (d .delimiterByte) ≡ false) × (eqb b 0x22 ≡ false) × (eqb b 0x0D ≡ false) × (eqb b 0x0A ≡ false)
-      m = unmarked (eqb b (d .delimiterByte)) (eqb b 0x22) (eqb b 0x0D) (eqb b 0x0A) e
+      m = ordinary (eqb b (d .delimiterByte)) (eqb b 0x22) (eqb b 0x0D) (eqb b 0x0A) e
 
       go : (x : Class) → classOf d b ≡ x → View d b x → (x ≡ text) ⊎ (x ≡ blank)
       go text e v = inl refl
@@ -208,7 +200,7 @@ module _ (d : Dialect) (b : ℕ) (held : classOf d b ≡ forbidden → ⊥) wher
       go quote e (is-quote q) = absurd (eqb-false b 0x22 (m .1) q)
       go CR e (is-CR q) = absurd (eqb-false b 0x0D (m .2) q)
       go LF e (is-LF q) = absurd (eqb-false b 0x0A (m .3) q)
-      go forbidden e v = absurd (held e)
+      go forbidden e v = absurd (free e)
 
 -- the classes that may stand alone between quotes
 abbrev pub quotedClass : Class → Bool

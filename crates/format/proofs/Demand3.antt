@@ -8,12 +8,12 @@ use lib.ListN.{length}
 use Rattle.format.specs.Table.{Bytes, Table}
 use Rattle.format.specs.Dialect.{strict}
 use Rattle.format.specs.House.{EmptyFile, EndsInBreak}
-use Rattle.format.specs.Written.{plainForm, plain, Holds}
+use Rattle.format.specs.WrittenForms.{plainForm, plain, CanHold}
 use Rattle.format.specs.Count.{inFile, needless, missing, Tally, tally}
 use Rattle.format.specs.Reading.{Reading}
 use Rattle.format.proofs.Ended.{missing-ended}
 use Rattle.format.proofs.Forms.{lines-read, plain-form-reads, plain-reads}
-use Rattle.format.proofs.Held.{OneTable, same-plain}
+use Rattle.format.proofs.CanHold.{OneTable, same-plain}
 use Rattle.format.proofs.Leniencies.{strict-report, none-in-file, no-alones}
 use Rattle.format.proofs.Tally.{length-law, tally-ended, tally-le, one-tally, plain-shortest-ended}
 
@@ -44,14 +44,14 @@ strict-ended x = (tally-le strict tt x, tally-ended strict tt x)
 pub strict-length : {f : Bytes} {t : Table} {n m : ℕ} → StrictTally f t n m → length f + 2 * m ≡ length (plain strict t) + 2 * n
 strict-length x = omega (arith, length-law strict tt x)
 
-plain-ended : (t : Table) → 1 ≤ length t → Holds strict t → EndsInBreak (plain strict t)
+plain-ended : (t : Table) → 1 ≤ length t → CanHold strict t → EndsInBreak (plain strict t)
 plain-ended [] n h = absurd (omega arith)
 plain-ended (cs ∷ t) n h =
     let p = lines-read strict tt (plainForm strict) (plain-form-reads strict tt) cs t (h .some-field) (h .none-forbidden) in
     missing-ended strict tt tt (p .0) .0 refl
 
 -- of any table of one or more records that strict can hold, the plain form is the one shortest strict file that ends in a line break
-pub plain-is-shortest-ended : (t : Table) → 1 ≤ length t → Holds strict t → ShortestEnded t (plain strict t)
+pub plain-is-shortest-ended : (t : Table) → 1 ≤ length t → CanHold strict t → ShortestEnded t (plain strict t)
 plain-is-shortest-ended t n h =
     let p = plain-reads strict tt t h in
     record {

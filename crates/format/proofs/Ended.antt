@@ -92,22 +92,22 @@ module _ (d : Dialect) (valid : T (delimits (d .delimiterByte))) where
   broken-last x r k = let l = record-last x r in l .same ∙ break-last (l .y) k
 
 -- what an ending says of the last byte
-abbrev Says : Ending → ℕ → Type 0
-Says with-break n = n ≡ 0x0A
-Says (without-break f) n = Other n
+abbrev LastByte : Ending → ℕ → Type 0
+LastByte with-break n = n ≡ 0x0A
+LastByte (without-break f) n = Other n
 
 module _ (d : Dialect) (valid : T (delimits (d .delimiterByte))) where
-  file-last : {f : Bytes} {t : Table} {e : Ending} (x : ℕ) → LastBreak e → File d f t e → Says e (lastOf x f)
+  file-last : {f : Bytes} {t : Table} {e : Ending} (x : ℕ) → LastBreak e → File d f t e → LastByte e (lastOf x f)
   unfolding lastOf
   file-last x l (File.one {f} r) = open-last d valid x f l r
   file-last x l (File.ended r k) = broken-last d valid x r k
-  file-last {e} x l (File.more {h} r k p) = subst (Says e) (sym (broken-last d valid x r k)) (file-last 0x0A l p)
+  file-last {e} x l (File.more {h} r k p) = subst (LastByte e) (sym (broken-last d valid x r k)) (file-last 0x0A l p)
 
   -- a file has its last line break exactly if its last byte is LF
   pub missing-ended : {f : Bytes} {t : Table} {e : Ending} → LastBreak e → File d f t e → (missing e ≡ 0) ↔ EndsInBreak f
   missing-ended {f} {e} l p = go e (file-last 0 l p)
     where
-      go : (e : Ending) → Says e (lastOf 0 f) → (missing e ≡ 0) ↔ EndsInBreak f
+      go : (e : Ending) → LastByte e (lastOf 0 f) → (missing e ≡ 0) ↔ EndsInBreak f
       go with-break s = (λ _. s, λ _. refl)
       go (without-break g) s = (λ n. absurd (omega arith), λ n. absurd (s n))
 

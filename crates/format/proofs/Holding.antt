@@ -11,7 +11,7 @@ use Rattle.format.specs.Table.{Content, Table, Every, None}
 use Rattle.format.specs.Dialect.{Dialect, ragged, forbidden, classOf}
 use Rattle.format.specs.House.{widthOf, differs, EqualRows, contentLimit, Fits}
 use Rattle.format.specs.Memory.{textOf}
-use Rattle.format.specs.Written.{Holds}
+use Rattle.format.specs.WrittenForms.{CanHold}
 
 module _ {A : Type 0} (P : A → Type 0) where
   every-append : (l m : List A) → Every P (l ++ m) → Every P l × Every P m
@@ -79,7 +79,7 @@ module _ (d : Dialect) where
 
   pub holds :
       (t : Table) → Every (λ cs. 1 ≤ length cs) t → None (λ b. classOf d b ≡ forbidden) (textOf t) → None (λ c. contentLimit < length c) (flatten t)
-      → None (λ cs. length cs ≡ widthOf t → ⊥) t → Holds d t
+      → None (λ cs. length cs ≡ widthOf t → ⊥) t → CanHold d t
   holds t full bytes contents rows =
       record {
         some-field = full;
@@ -90,11 +90,11 @@ module _ (d : Dialect) where
         };
       }
 
-  pub holds-bytes : {t : Table} → Holds d t → None (λ b. classOf d b ≡ forbidden) (textOf t)
+  pub holds-bytes : {t : Table} → CanHold d t → None (λ b. classOf d b ≡ forbidden) (textOf t)
   holds-bytes {t} h = each-every Allowing (flatten t) (each-every (Every Allowing) t (h .none-forbidden))
 
-  pub holds-contents : {t : Table} → Holds d t → None (λ c. contentLimit < length c) (flatten t)
+  pub holds-contents : {t : Table} → CanHold d t → None (λ c. contentLimit < length c) (flatten t)
   holds-contents {t} h = every-so Fits Short (λ c i k. omega (arith, i)) (flatten t) (each-every Fits t (h .rules .contents))
 
-  pub holds-rows : {t : Table} → d .allows ragged ≡ false → Holds d t → None (λ cs. length cs ≡ widthOf t → ⊥) t
+  pub holds-rows : {t : Table} → d .allows ragged ≡ false → CanHold d t → None (λ cs. length cs ≡ widthOf t → ⊥) t
   holds-rows {t} n h = rows-equal n t (h .rules .rows)

@@ -10,9 +10,9 @@ use borrow.Author.Tests.{ne-eqb}
 use Rattle.format.specs.Table.{Bytes, Content, Table, Ending}
 use Rattle.format.specs.Dialect.{Dialect, quote, delimits}
 use Rattle.format.specs.Grammar.{padded, Blanks, Bare, Inside, opened, Quoted, closed, Field, Record, Break, File}
-use Rattle.format.specs.Written.{isMark, holdsMark, needsQuotes, doubled, quotedForm, plainForm, recordBy, tableBy, plain}
+use Rattle.format.specs.WrittenForms.{isSpecial, holdsSpecial, needsQuotes, doubled, quotedForm, plainForm, recordBy, tableBy, plain}
 use Rattle.format.specs.Count.{Measure, inRecord, inFile, blankCount, dropped, needless, alone, alones, missing}
-use Rattle.format.proofs.Classes.{quote-is, CR-is, LF-is, delimiter-is, blank-is, class-quote, text-unmarked, blank-unmarked}
+use Rattle.format.proofs.Classes.{quote-is, CR-is, LF-is, delimiter-is, blank-is, class-quote, text-ordinary, blank-ordinary}
 use Rattle.format.proofs.Forms.{either-false}
 
 -- what a field's source is, byte for byte
@@ -21,25 +21,25 @@ bare-source Bare.none = refl
 bare-source (Bare.text-byte {b} k r) = ap (λ (l : Bytes). b ∷ l) (bare-source r)
 bare-source (Bare.blank-byte {b} k r) = ap (λ (l : Bytes). b ∷ l) (bare-source r)
 
-bare-unmarked : {d : Dialect} {f g : Bytes} {c : Content} → Bare d f c g → holdsMark d c ≡ false
-unfolding holdsMark
-bare-unmarked Bare.none = refl
-bare-unmarked {d} (Bare.text-byte {b} k r) = rw (text-unmarked d b k .0, bare-unmarked r)
-bare-unmarked {d} (Bare.blank-byte {b} k r) = rw (blank-unmarked d b k .0, bare-unmarked r)
+bare-ordinary : {d : Dialect} {f g : Bytes} {c : Content} → Bare d f c g → holdsSpecial d c ≡ false
+unfolding holdsSpecial
+bare-ordinary Bare.none = refl
+bare-ordinary {d} (Bare.text-byte {b} k r) = rw (text-ordinary d b k .0, bare-ordinary r)
+bare-ordinary {d} (Bare.blank-byte {b} k r) = rw (blank-ordinary d b k .0, bare-ordinary r)
 
 -- a bare field needs no quotes
 pub bare-needs : {d : Dialect} {f g : Bytes} {c : Content} → Bare d f c g → padded d c ≡ false → needsQuotes d c ≡ false
 unfolding needsQuotes
-bare-needs k n = rw (bare-unmarked k, n)
+bare-needs k n = rw (bare-ordinary k, n)
 
--- where no byte is a mark, none is doubled
-pub unmarked-doubled : (d : Dialect) (c : Content) → holdsMark d c ≡ false → doubled c ≡ c
-unfolding holdsMark doubled
-unmarked-doubled d [] e = refl
-unmarked-doubled d (b ∷ c) e = rw (quote .1 .0, unmarked-doubled d c (both .1))
+-- where no byte is special, none is doubled
+pub ordinary-doubled : (d : Dialect) (c : Content) → holdsSpecial d c ≡ false → doubled c ≡ c
+unfolding holdsSpecial doubled
+ordinary-doubled d [] e = refl
+ordinary-doubled d (b ∷ c) e = rw (quote .1 .0, ordinary-doubled d c (both .1))
   where
-    both : (isMark d b ≡ false) × (holdsMark d c ≡ false)
-    both = either-false (isMark d b) (holdsMark d c) e
+    both : (isSpecial d b ≡ false) × (holdsSpecial d c ≡ false)
+    both = either-false (isSpecial d b) (holdsSpecial d c) e
 
     quote : (eqb b (d .delimiterByte) ≡ false) × ((eqb b 0x22 ≡ false) × ((eqb b 0x0D || eqb b 0x0A) ≡ false))
     quote = let x = either-false (eqb b (d .delimiterByte)) _ (both .0) in (x .0, either-false (eqb b 0x22) _ (x .1))
@@ -111,7 +111,7 @@ module _ (w : ℕ → ℕ) where
     quotes-weight : (c : Content) → needsQuotes d c ≡ false → weigh w (quotedForm c) ≡ weigh w c + (w 0x22 + w 0x22)
     unfolding needsQuotes quotedForm weigh
     quotes-weight c e =
-        rw (unmarked-doubled d c (either-false (holdsMark d c) (padded d c) e .0), weigh-append c (0x22 ∷ [])) (omega arith)
+        rw (ordinary-doubled d c (either-false (holdsSpecial d c) (padded d c) e .0), weigh-append c (0x22 ∷ [])) (omega arith)
 
     field-weight : {f g : Bytes} {c : Content} (p : Field d f c g) → weigh w f ≡ weigh w (plainForm d c) + (extra w f c g p + weigh w g)
     unfolding needless dropped plainForm

@@ -199,12 +199,6 @@ by-report g = same-reading g refl (λ l e. e) (report-allowed g blanks)
 pub report-0-strict : (d : Dialect) → d .delimiterByte ≡ 0x2C → {f : Bytes} {t : Table} → Reading d f t 0 → Reading strict f t 0
 report-0-strict d v {f} {t} g = subst (λ (b : ℕ). Reading (dialect b 0) f t 0) v (by-report g)
 
--- what strict reads, every comma dialect with "blanks" off reads with the same table and report 0
-pub without-blanks :
-    (d : Dialect) → d .delimiterByte ≡ 0x2C → d .allows blanks ≡ false → {f : Bytes} {t : Table} {r : ℕ} → Reading strict f t r → Reading d f t 0
-without-blanks d v off g =
-    same-reading (rw (strict-report g) at g) v (λ l n. absurd (none-named l n)) (λ e. absurd (true≢false (sym e ∙ off)))
-
 blanks-or-not :
     (x y : Leniency → Bool) {r : ℕ}
     → x lf ≡ y lf → x ragged ≡ y ragged → x bytes ≡ y bytes → (x blanks ≡ y blanks) ⊎ (y blanks ≡ false) → sumOf y ≡ r

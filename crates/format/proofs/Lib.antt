@@ -7,7 +7,7 @@ pub mod Filling
 pub mod First
 pub mod Forms
 pub mod Grow
-pub mod Held
+pub mod CanHold
 pub mod Holding
 pub mod Length
 pub mod Leniencies

@@ -13,7 +13,7 @@ use Rattle.format.specs.Table.{Bytes, Content}
 use Rattle.format.specs.Dialect.{Dialect, strict}
 use Rattle.format.specs.Grammar.{padded}
 use Rattle.format.specs.Memory.{parts}
-use Rattle.format.specs.Written.{isMark, holdsMark, needsQuotes, doubled, quotedForm, plainForm, recordBy, tableBy}
+use Rattle.format.specs.WrittenForms.{isSpecial, holdsSpecial, needsQuotes, doubled, quotedForm, plainForm, recordBy, tableBy}
 
 module _ (form : Content → Bytes) (d : Dialect) (fields : List Content) where
   record-more : (c : Content) (cs : List Content) → 1 ≤ length cs → recordBy form d (c ∷ cs) ≡ form c ++ (d .delimiterByte ∷ recordBy form d cs)
@@ -45,23 +45,18 @@ module _ (form : Content → Bytes) (d : Dialect) (fields : List Content) where
   unfolding parts tableBy
   lines-end k = refl
 
--- whether a content needs quotes, found byte by byte; strict drops no blank, so that only marks count
-pub strict-needs : (c : Content) → needsQuotes strict c ≡ holdsMark strict c
-unfolding needsQuotes padded
-strict-needs [] = or-false (holdsMark strict [])
-strict-needs (b ∷ c) = or-false (holdsMark strict (b ∷ c))
-
+-- whether a content holds a special byte, found byte by byte
 module _ (d : Dialect) where
-  pub marked-holds : (b : ℕ) (c : Content) → isMark d b ≡ true → holdsMark d (b ∷ c) ≡ true
-  unfolding holdsMark
-  marked-holds b c e = rw e
+  pub special-holds : (b : ℕ) (c : Content) → isSpecial d b ≡ true → holdsSpecial d (b ∷ c) ≡ true
+  unfolding holdsSpecial
+  special-holds b c e = rw e
 
-  pub unmarked-holds : (b : ℕ) (c : Content) → isMark d b ≡ false → holdsMark d (b ∷ c) ≡ holdsMark d c
-  unfolding holdsMark
-  unmarked-holds b c e = rw e
+  pub ordinary-holds : (b : ℕ) (c : Content) → isSpecial d b ≡ false → holdsSpecial d (b ∷ c) ≡ holdsSpecial d c
+  unfolding holdsSpecial
+  ordinary-holds b c e = rw e
 
-  pub nothing-holds : holdsMark d [] ≡ false
-  unfolding holdsMark
+  pub nothing-holds : holdsSpecial d [] ≡ false
+  unfolding holdsSpecial
   nothing-holds = refl
 
 -- the content of a field, written byte by byte

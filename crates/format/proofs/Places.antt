@@ -108,10 +108,6 @@ pub place-first : (f : Bytes) → placeOf f f ≡ place 1 1 0
 unfolding behind lineFeeds sinceLf
 place-first f = place-behind [] f
 
-pub place-end : (f : Bytes) → placeOf f [] .byte .0 ≡ length f
-unfolding behind
-place-end f = rw append-nil at (ap (λ (p : Place). p .byte .0) (place-behind f []))
-
 pub place-run : (s r g : Bytes) → placeOf (s ++ (r ++ g)) g ≡ past r (placeOf (s ++ (r ++ g)) (r ++ g))
 place-run s r g = rw (place-behind s (r ++ g), ← append-assoc s r g, place-behind (s ++ r) g, behind-append)
 
@@ -137,12 +133,12 @@ since-within (b ∷ s) = go (eqb (lineFeeds (b ∷ s)) 0) (since-within s)
     go false h = omega arith
 
 -- the numbers of a place are within the bytes before it
-pub record Within (n : ℕ) (p : Place) : Type 0 where
+pub record PlaceWithin (n : ℕ) (p : Place) : Type 0 where
   pub line : p .line .0 ≤ 1 + n
   pub column : p .column .0 ≤ 1 + n
   pub byte : p .byte .0 ≤ n
 
-pub place-within : (s g : Bytes) → Within (length s) (placeOf (s ++ g) g)
+pub place-within : (s g : Bytes) → PlaceWithin (length s) (placeOf (s ++ g) g)
 unfolding behind
 place-within s g =
     rw (place-behind s g)

@@ -12,8 +12,8 @@ use Rattle.format.specs.Grammar.{padded, Blanks, Bare, Inside, Open, Quo
 use Rattle.format.specs.Rfc4180
 use Rattle.format.specs.Rfc4180.{Textdata, NonEscaped, InEscaped}
 use Rattle.format.specs.House.{LastBreak, EmptyFile, Allowed}
-use Rattle.format.specs.Reading.{Reading}
-use Rattle.format.specs.Written.{isMark, holdsMark, needsQuotes}
+use Rattle.format.specs.Reading.{Reading, RfcReading}
+use Rattle.format.specs.WrittenForms.{isSpecial, holdsSpecial, needsQuotes}
 use Rattle.format.proofs.Leniencies.{strict-report}
 use Rattle.format.proofs.Classes.{Strict, strict-text, strict-comma, strict-quote, strict-CR, strict-LF, strict-other, strict-class, TextRange, textdata-range, quote-is, CR-is, LF-is, delimiter-is, blank-is, class-quote, class-CR, class-LF, class-delimiter, inside-byte}
 
@@ -42,33 +42,33 @@ module _ (b : ℕ) where
 
   -- strict forbids all other bytes, and no more
   pub strict-holds : (classOf strict b ≡ forbidden → ⊥) ↔ StrictByte b
-  strict-holds = (λ held. go (classOf strict b) held (strict-class b), λ w e. none w (rw e at (strict-class b)))
+  strict-holds = (λ free. go (classOf strict b) free (strict-class b), λ w e. none w (rw e at (strict-class b)))
     where
       go : (x : Class) → (x ≡ forbidden → ⊥) → Strict b x → StrictByte b
-      go text held (strict-text k) = let p = textdata-range k in inl (p .low, p .high)
-      go delimiter held (strict-comma q) = inl (omega arith)
-      go quote held (strict-quote q) = inl (omega arith)
-      go CR held (strict-CR q) = inr (inl q)
-      go LF held (strict-LF q) = inr (inr q)
-      go forbidden held v = absurd (held refl)
+      go text free (strict-text k) = let p = textdata-range k in inl (p .low, p .high)
+      go delimiter free (strict-comma q) = inl (omega arith)
+      go quote free (strict-quote q) = inl (omega arith)
+      go CR free (strict-CR q) = inr (inl q)
+      go LF free (strict-LF q) = inr (inr q)
+      go forbidden free v = absurd (free refl)
 
       none : StrictByte b → Strict b forbidden → ⊥
       none (inl r) (strict-other n c l) = n (r .0) (r .1)
       none (inr (inl q)) (strict-other n c l) = c q
       none (inr (inr q)) (strict-other n c l) = l q
 
--- At strict a field needs quotes exactly where it holds a mark. A mark is there, by computation, a comma, quote, CR or LF: the rule of 01 for the plain form.
-pub strict-mark : (b : ℕ) → isMark strict b ≡ (eqb b 0x2C || (eqb b 0x22 || (eqb b 0x0D || eqb b 0x0A)))
-strict-mark b = refl
+-- At strict a field needs quotes exactly where it holds a special byte. That is, by computation, a comma, quote, CR or LF: the rule of 01 for the plain form.
+pub strict-special : (b : ℕ) → isSpecial strict b ≡ (eqb b 0x2C || (eqb b 0x22 || (eqb b 0x0D || eqb b 0x0A)))
+strict-special b = refl
 
 strict-padded : (c : Content) → padded strict c ≡ false
 unfolding padded
 strict-padded [] = refl
 strict-padded (b ∷ c) = refl
 
-pub strict-needs : (c : Content) → needsQuotes strict c ≡ holdsMark strict c
+pub strict-needs : (c : Content) → needsQuotes strict c ≡ holdsSpecial strict c
 unfolding needsQuotes
-strict-needs c = rw (strict-padded c) (go (holdsMark strict c))
+strict-needs c = rw (strict-padded c) (go (holdsSpecial strict c))
   where
     go : (x : Bool) → (x || false) ≡ x
     go true = refl
@@ -165,10 +165,6 @@ pub rfc-grammar : {f : Bytes} {t : Table} {e : Ending} → Rfc4180.File f t e �
 rfc-grammar (Rfc4180.File.one {f} r) = File.one (rw (append-nil f) at (rfc-record [] r))
 rfc-grammar (Rfc4180.File.ended r e) = rw e (File.ended (rfc-record (0x0D ∷ 0x0A ∷ []) r) (rfc-break []))
 rfc-grammar (Rfc4180.File.more {h} r p e) = rw e (File.more (rfc-record (0x0D ∷ 0x0A ∷ h) r) (rfc-break h) (rfc-grammar p))
-
--- RFC 4180's own grammar, under the house rules with no leniency
-abbrev pub RfcReading : Bytes → Table → Type 0
-RfcReading f t = EmptyFile f t ⊎ ((e : Ending) × Rfc4180.File f t e × LastBreak e × Allowed strict t)
 
 -- what strict reads is what RFC 4180 says under the house rules, with the same table
 pub strict-is-rfc : (f : Bytes) (t : Table) → Reading strict f t 0 ↔ RfcReading f t

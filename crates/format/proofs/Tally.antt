@@ -12,7 +12,7 @@ use Rattle.format.specs.Table.{Bytes, Content, Table, Ending}
 use Rattle.format.specs.Dialect.{Dialect, delimits}
 use Rattle.format.specs.Grammar.{Blanks, Field, Record, Break, File}
 use Rattle.format.specs.House.{EndsInBreak}
-use Rattle.format.specs.Written.{needsQuotes, quotedForm, plainForm, recordBy, tableBy, plain}
+use Rattle.format.specs.WrittenForms.{needsQuotes, quotedForm, plainForm, recordBy, tableBy, plain}
 use Rattle.format.specs.Count.{inRecord, inFile, blankCount, dropped, needless, alone, alones, missing, Tally, tally}
 use Rattle.format.proofs.Classes.{CR-is, LF-is, delimiter-is}
 use Rattle.format.proofs.Ended.{missing-ended, missing-le}

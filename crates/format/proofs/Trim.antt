@@ -9,7 +9,7 @@ use Rattle.format.specs.Table.{Bytes, Content, lastOf}
 use Rattle.format.specs.Dialect.{Dialect, text, blank, classOf}
 use Rattle.format.specs.Grammar.{Blanks, Bare, padded, Field}
 use Rattle.format.specs.Count.{blankCount, dropped}
-use Rattle.format.proofs.Classes.{droppable, text-unmarked, unpadded}
+use Rattle.format.proofs.Classes.{droppable, text-ordinary, unpadded}
 use Rattle.format.proofs.Grow.{blanks-join}
 
 -- behind a byte that is kept: of the content c, what is left without the blanks at its end
@@ -21,7 +21,7 @@ data Tail (d : Dialect) (c : Content) : Bytes → Bytes → Type 0 where
 module _ {d : Dialect} where
   text-tail : {b : ℕ} {f g : Bytes} {c : Content} → classOf d b ≡ text → Tail d c f g → Tail d (b ∷ c) (b ∷ f) g
   unfolding lastOf
-  text-tail {b} k (tail p y l n) = tail (Bare.text-byte k p) y (λ a h. l b (text-unmarked d b k .1)) (omega arith)
+  text-tail {b} k (tail p y l n) = tail (Bare.text-byte k p) y (λ a h. l b (text-ordinary d b k .1)) (omega arith)
 
   blank-tail : {b : ℕ} {f g : Bytes} {c : Content} → classOf d b ≡ blank → Tail d c f g → Tail d (b ∷ c) (b ∷ f) g
   unfolding lastOf
@@ -46,7 +46,7 @@ module _ {d : Dialect} where
     where
       go : {f h : Bytes} → Tail d c f h → (e : Content) × Field d (b ∷ f) e h × (length e ≤ suc (length c))
       go (tail {e} q z l n) =
-          let t : droppable d b ≡ false = text-unmarked d b k .1 in
+          let t : droppable d b ≡ false = text-ordinary d b k .1 in
           (b ∷ e, Field.bare Blanks.none (Bare.text-byte k q) (unpadded d b e t (l b t)) z, omega arith)
   trimmed (Bare.blank-byte k p) y =
       let (e, q, n) = trimmed p y in

@@ -7,7 +7,7 @@ use Rattle.format.specs.Table.{Bytes, Content, Table, Ending, with-break
 use Rattle.format.specs.Dialect.{Leniency, lf, blanks, ragged, bytes, bitOf, Dialect, isWide}
 use Rattle.format.specs.Grammar.{Blanks, Field, Record, Break, File}
 use Rattle.format.specs.House.{LastBreak, isRagged}
-use Rattle.format.specs.Written.{needsQuotes}
+use Rattle.format.specs.WrittenForms.{needsQuotes}
 
 -- a number for each field, summed over a record and over a file
 abbrev pub Measure : Dialect → Type 0

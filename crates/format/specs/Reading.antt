@@ -1,10 +1,12 @@
 -- What a file is read as, and what becomes of it.
 use Prim.Native.Nat.{ℕ, _≤_, _<_}
 use mathlib.Core.Path.{_≡_}
+use mathlib.Core.Logic.{_⊎_}
 use lib.ListN.{length}
 use Rattle.format.specs.declared.Place.{Place}
 use Rattle.format.specs.Table.{Bytes, Table, Ending}
-use Rattle.format.specs.Dialect.{Dialect, dialect, Valid}
+use Rattle.format.specs.Dialect.{Dialect, dialect, strict, Valid}
+use Rattle.format.specs.Rfc4180
 use Rattle.format.specs.Grammar.{File}
 use Rattle.format.specs.House.{LastBreak, EmptyFile, fileLimit, Allowed}
 use Rattle.format.specs.Count.{report}
@@ -15,6 +17,10 @@ use Rattle.format.specs.Refusal.{Refusal}
 pub data Reading (d : Dialect) (f : Bytes) (t : Table) : ℕ → Type 0 where
   nothing : EmptyFile f t → Reading d f t 0
   something : {e : Ending} {r : ℕ} (p : File d f t e) → LastBreak e → Allowed d t → report p ≡ r → Reading d f t r
+
+-- what RFC 4180 and the house rules say of a file, with no leniency: it is empty, or it is a file of the RFC
+abbrev pub RfcReading : Bytes → Table → Type 0
+RfcReading f t = EmptyFile f t ⊎ ((e : Ending) × Rfc4180.File f t e × LastBreak e × Allowed strict t)
 
 -- over any two dialect bytes: a valid dialect, a file within the limit, and its reading
 pub record Accepted (delimiter sum : ℕ) (f : Bytes) (t : Table) (r : ℕ) : Type 0 where

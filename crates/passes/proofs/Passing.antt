@@ -17,7 +17,7 @@ use Rattle.state.proofs.Jumps.{fed-end, text-leap}
 use Rattle.state.proofs.Refused.{refused-all}
 use Rattle.spans.specs.declared.Inside.{Inside}
 use Rattle.spans.specs.declared.Walk.{Walk}
-use Rattle.spans.specs.Walk.{Within, Leading, walked}
+use Rattle.spans.specs.Walk.{BetweenFrom, Leading, walked}
 use Rattle.passes.specs.declared.Reached.{Reached}
 use Rattle.passes.specs.Passes.{Leads}
 
@@ -34,7 +34,7 @@ walked-leads c s i x h = record { on = omega (arith, h .on, h .line, h .from); w
 
 module _ (c : Check) (s : Bytes) (i : ℕ) (inside : i ≤ length s) where
   -- content between quotes
-  pub inside-leads : (r : Inside) → Within s i r → Settled c → Leads c s i (record { at = r .end; check = jumped 3 (spot (r .lines) (r .tail) (r .end - i) (c .here)) (r .content) c })
+  pub inside-leads : (r : Inside) → BetweenFrom s i r → Settled c → Leads c s i (record { at = r .end; check = jumped 3 (spot (r .lines) (r .tail) (r .end - i) (c .here)) (r .content) c })
   inside-leads r w q = let b = w .between inside in record { on = b .on; within = λ h. b .within; same = b .same c q }
 
   -- plain text

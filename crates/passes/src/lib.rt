@@ -201,12 +201,12 @@ fn opening(check: Check, x: Walk, at: usize) -> Check
         width: check.counts.width,
     };
     let begun = if x.number == 0 { 0 } else { 1 };
-    let mark = places::nowhere();
+    let anchor = places::nowhere();
     let mut c = check;
     c.form = 0;
     c.begun = begun;
     c.here = p;
-    c.mark = mark;
+    c.anchor = anchor;
     c.field = field;
     c.counts = counts;
     c

@@ -23,7 +23,7 @@ use Rattle.pieces.specs.Asked.{bitIf, totalled, settledAnswer, isOpen, c
 use Rattle.state.proofs.Jumps.{fed-is}
 use Rattle.state.proofs.Moves.{fed-none, fed-cons, Refuses, stopped-refuses, placed-refuses, fed-refuses}
 use Rattle.places.proofs.Counting.{moved-is}
-use Rattle.state.proofs.Going.{Source, dialectOf, Running, num, usedOf, going, Marked, At, before-limit, made, anew, record-ended, wideOn, adds, AtThen, acted, acted-at, noted-going, placed-going}
+use Rattle.state.proofs.Going.{Source, dialectOf, Running, num, usedOf, going, Anchored, At, before-limit, made, anew, record-ended, wideOn, adds, AtThen, acted, acted-at, noted-going, placed-going}
 
 -- the answer of a state, where the dialect is valid and the file within the limit
 unfoldable pub inner : Check → Answer
@@ -39,11 +39,11 @@ Ahead z g =
 module _ (c : Check) (n : ℕ) (p : Place) (e : eqb n 0 ≡ false) (h : Refuses n p c) where
   settled-refuses : settledAnswer c ≡ Declined n p
   unfolding settledAnswer
-  settled-refuses = rw (h .refusal, h .mark, e)
+  settled-refuses = rw (h .refusal, h .anchor, e)
 
   inner-refuses : inner c ≡ Declined n p
   unfolding inner settledAnswer
-  inner-refuses = rw (h .refusal, h .mark, e)
+  inner-refuses = rw (h .refusal, h .anchor, e)
 
 -- a state without one, if the file ends before a field
 bit-num : (x : Bool) (n : ℕ) → bitIf (num x) n ≡ cond x n 0
@@ -78,12 +78,12 @@ module _ {z : Source} {s : Bytes} {r : Running} (at : At z s [] r) where
 
   end-is : inner (going z [] r) ≡ answer (z .file) (r .wide) (cond (p .begun) (lastly (dialectOf z) (p .form) p) (closed (p .work .account)))
   unfolding inner
-  end-is = by (p .begun) (p .form) (at .marked)
+  end-is = by (p .begun) (p .form) (at .anchored)
     where
       by :
-          (u : Bool) (k : Form) → Marked (z .file) k (p .mark) (r .mark)
+          (u : Bool) (k : Form) → Anchored (z .file) k (p .anchor) (r .anchor)
           → cond (not (eqb (num u) 0))
-          (cond (eqb (formNumber k) 3) (Declined 8 (r .mark)) (cond (leb 6 (formNumber k)) (Declined 6 (r .mark)) cutRecord))
+          (cond (eqb (formNumber k) 3) (Declined 8 (r .anchor)) (cond (leb 6 (formNumber k)) (Declined 6 (r .anchor)) cutRecord))
           (settledAnswer (going z [] r))
           ≡ answer (z .file) (r .wide) (cond u (lastly (dialectOf z) k p) (closed (p .work .account)))
       by false = λ k i. settled-going z [] r

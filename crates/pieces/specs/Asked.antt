@@ -27,7 +27,7 @@ totalled c =
 
 -- the answer of a state that no open field leaves
 unfoldable pub settledAnswer : Check → Answer
-settledAnswer c = cond (eqb (c .refusal) 0) (Taken (totalled c)) (Declined (c .refusal) (c .mark))
+settledAnswer c = cond (eqb (c .refusal) 0) (Taken (totalled c)) (Declined (c .refusal) (c .anchor))
 
 -- bytes came since the last record's end, and no fault
 abbrev pub isOpen : Check → Bool
@@ -36,8 +36,8 @@ isOpen c = eqb (c .refusal) 0 && not (eqb (c .begun) 0)
 -- the answer if the file ends in an open record
 abbrev pub cut : Check → Answer
 cut c =
-    cond (eqb (c .form) 3) (Declined 8 (c .mark))
-    (cond (leb 6 (c .form)) (Declined 6 (c .mark)) (settledAnswer (recordEnded (c .used) (c .here) (c .here) false c)))
+    cond (eqb (c .form) 3) (Declined 8 (c .anchor))
+    (cond (leb 6 (c .form)) (Declined 6 (c .anchor)) (settledAnswer (recordEnded (c .used) (c .here) (c .here) false c)))
 
 -- the answer as if the file ended here
 unfoldable pub asked : Check → Answer

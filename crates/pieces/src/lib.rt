@@ -26,7 +26,7 @@ pub fn start(delimiter: u8, leniencies: u8) -> Check
     ensures { λ r. ⌜ Started delimiter leniencies r ⌝ }
 {
     let here = first_place();
-    let mark = places::nowhere();
+    let anchor = places::nowhere();
     let used = Used {
         lf: 0,
         blanks: 0,
@@ -54,7 +54,7 @@ pub fn start(delimiter: u8, leniencies: u8) -> Check
         begun: 0,
         used,
         here,
-        mark,
+        anchor,
         field,
         counts,
     }
@@ -108,12 +108,12 @@ pub fn ask(check: Check) -> Answer
     if check.begun == 0 {
         return settled(check);
     }
-    let mark = check.mark;
+    let anchor = check.anchor;
     if check.form == 3 {
-        return Answer::Declined(8, mark);
+        return Answer::Declined(8, anchor);
     }
     if 6 <= check.form {
-        return Answer::Declined(6, mark);
+        return Answer::Declined(6, anchor);
     }
     let used = check.used;
     let here = check.here;
@@ -179,7 +179,7 @@ fn is_quote(check: Check, k: u8, b: u8) -> bool
 
 // The state behind a quote that may close the field, or be the first of a pair.
 fn shut(check: Check) -> Check
-    ensures { λ r. ⌜ r ≡ placed (along 1 (check .here)) (entered 4 (check .mark) (check .used) (check .field) check) ⌝ }
+    ensures { λ r. ⌜ r ≡ placed (along 1 (check .here)) (entered 4 (check .anchor) (check .used) (check .field) check) ⌝ }
 {
     let here = check.here;
     let next = places::along(1, here);
@@ -198,8 +198,8 @@ fn settled(check: Check) -> Answer
         let s = totalled(check);
         Answer::Taken(s)
     } else {
-        let mark = check.mark;
-        Answer::Declined(check.refusal, mark)
+        let anchor = check.anchor;
+        Answer::Declined(check.refusal, anchor)
     }
 }
 

@@ -11,7 +11,7 @@ use Rattle.format.specs.declared.Place.{Place}
 use Rattle.format.specs.Table.{Bytes}
 use Rattle.format.specs.House.{fileLimit}
 use Rattle.format.specs.Place.{place, placeOf}
-use Rattle.format.proofs.Places.{after, after-lf, after-other, place-step, Within, place-within}
+use Rattle.format.proofs.Places.{after, after-lf, after-other, place-step, PlaceWithin, place-within}
 use Rattle.places.specs.Counters.{counterLimit, plus, moved, along, spot}
 
 -- the sum of counters, without the stops on the way
@@ -99,7 +99,7 @@ unfolding moved
 moved-is s b f h = rw (place-step s b f) (go (placeOf (s ++ (b ∷ f)) (b ∷ f)) (place-within s (b ∷ f)) (eqb b 0x0A) refl)
   where
     go :
-        (p : Place) → Within (length s) p → (y : Bool) → eqb b 0x0A ≡ y
+        (p : Place) → PlaceWithin (length s) p → (y : Bool) → eqb b 0x0A ≡ y
         → cond (eqb b 0x0A) (place (plus (p .line .0) 1) 1 (plus (p .byte .0) 1)) (place (p .line .0) (plus (p .column .0) 1) (plus (p .byte .0) 1)) ≡ after b p
     go p w true e =
         let line : plus (p .line .0) 1 ≡ p .line .0 + 1 = omega (arith, w .line) in

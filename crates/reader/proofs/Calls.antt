@@ -12,13 +12,13 @@ use Rattle.format.specs.Table.{Bytes, Table}
 use Rattle.format.specs.Memory.{textOf, endsOf, rowsOf, WellFormed, tableOf}
 use Rattle.format.specs.Place.{place}
 use Rattle.format.specs.Reading.{Accepted}
-use Rattle.format.proofs.Held.{reading-held}
+use Rattle.format.proofs.CanHold.{reading-can-hold}
 use Rattle.format.proofs.Memory.{length-lengths, table-well-formed, table-back}
 use Rattle.steps.proofs.Theorems.{one-accepted, one-refused, never-both, office-auditor}
 use Rattle.pieces.specs.Answers.{totalsOf, Answers, accepted, refused}
 use Rattle.pieces.proofs.Stands.{one-answer}
 use Rattle.format.specs.Filling.{over}
-use Rattle.reader.specs.Read.{Room, NoRoom, no-text, no-ends, no-rows, Outcome}
+use Rattle.reader.specs.Read.{Room, NoRoom, no-text, no-ends, no-rows, ReadOutcome}
 
 -- the tests of room exclude each other
 module _ {t : Table} {text : Bytes} {ends rows : List ℕ} where
@@ -42,21 +42,21 @@ module _ {b sum : ℕ} {f text : Bytes} {ends rows : List ℕ} where
   -- any two outcomes that the promise allows are equal, buffers included
   pub one-outcome :
       {a a′ : Answer} {x x′ : Bytes} {y y′ z z′ : List ℕ}
-      → Outcome b sum f text ends rows a x y z → Outcome b sum f text ends rows a′ x′ y′ z′ → (a ≡ a′) × (x ≡ x′) × (y ≡ y′) × (z ≡ z′)
-  one-outcome (Outcome.refused h) (Outcome.refused i) = let e = one-refused h i in ((λ j. Declined (e .0 j) (e .1 j)), refl, refl, refl)
-  one-outcome (Outcome.refused h) (Outcome.no-room i k) = absurd (never-both i h)
-  one-outcome (Outcome.refused h) (Outcome.filled i k) = absurd (never-both i h)
-  one-outcome (Outcome.no-room h k) (Outcome.refused i) = absurd (never-both h i)
-  one-outcome (Outcome.no-room {n} h k) (Outcome.no-room i l) =
+      → ReadOutcome b sum f text ends rows a x y z → ReadOutcome b sum f text ends rows a′ x′ y′ z′ → (a ≡ a′) × (x ≡ x′) × (y ≡ y′) × (z ≡ z′)
+  one-outcome (ReadOutcome.refused h) (ReadOutcome.refused i) = let e = one-refused h i in ((λ j. Declined (e .0 j) (e .1 j)), refl, refl, refl)
+  one-outcome (ReadOutcome.refused h) (ReadOutcome.no-room i k) = absurd (never-both i h)
+  one-outcome (ReadOutcome.refused h) (ReadOutcome.filled i k) = absurd (never-both i h)
+  one-outcome (ReadOutcome.no-room h k) (ReadOutcome.refused i) = absurd (never-both h i)
+  one-outcome (ReadOutcome.no-room {n} h k) (ReadOutcome.no-room i l) =
       let e = one-accepted h i in
       let s = one-room (subst (λ (t : Table). NoRoom t text ends rows n) (e .0) k) l in
       (ap (λ (m : ℕ). Declined m (place 0 0 0)) s, refl, refl, refl)
-  one-outcome (Outcome.no-room h k) (Outcome.filled {t} i l) =
+  one-outcome (ReadOutcome.no-room h k) (ReadOutcome.filled {t} i l) =
       absurd (room-or-not (subst (λ (u : Table). Room u text ends rows) (one-accepted i h .0) l) k)
-  one-outcome (Outcome.filled h k) (Outcome.refused i) = absurd (never-both h i)
-  one-outcome (Outcome.filled h k) (Outcome.no-room i l) =
+  one-outcome (ReadOutcome.filled h k) (ReadOutcome.refused i) = absurd (never-both h i)
+  one-outcome (ReadOutcome.filled h k) (ReadOutcome.no-room i l) =
       absurd (room-or-not (subst (λ (u : Table). Room u text ends rows) (one-accepted h i .0) k) l)
-  one-outcome (Outcome.filled h k) (Outcome.filled i l) =
+  one-outcome (ReadOutcome.filled h k) (ReadOutcome.filled i l) =
       let e = one-accepted h i in (
         (λ j. Taken (totalsOf (e .0 j) (e .1 j))),
         ap (λ (t : Table). over (textOf t) text) (e .0),
@@ -67,20 +67,20 @@ module _ {b sum : ℕ} {f text : Bytes} {ends rows : List ℕ} where
 -- The check's answer is the reader's, 11 to 13 apart: those come where the check accepts.
 pub check-is-read :
     {b sum : ℕ} {f text : Bytes} {ends rows : List ℕ} {a a′ : Answer} {x : Bytes} {y z : List ℕ}
-    → Answers b sum f a → Outcome b sum f text ends rows a′ x y z
+    → Answers b sum f a → ReadOutcome b sum f text ends rows a′ x y z
     → (a ≡ a′) ⊎ ((t : Table) × (r n : ℕ) × (a ≡ Taken (totalsOf t r)) × NoRoom t text ends rows n × (a′ ≡ Declined n (place 0 0 0)))
-check-is-read h (Outcome.refused i) = inl (one-answer h (refused i))
-check-is-read h (Outcome.no-room {t} {r} {n} i k) = inr (t, r, n, one-answer h (accepted i), k, refl)
-check-is-read h (Outcome.filled i k) = inl (one-answer h (accepted i))
+check-is-read h (ReadOutcome.refused i) = inl (one-answer h (refused i))
+check-is-read h (ReadOutcome.no-room {t} {r} {n} i k) = inr (t, r, n, one-answer h (accepted i), k, refl)
+check-is-read h (ReadOutcome.filled i k) = inl (one-answer h (accepted i))
 
 -- `read` with comma that reports 0 means that `read_strict` answers the same, with the same buffers
 pub office-auditor-read :
     {sum : ℕ} {f text : Bytes} {ends rows : List ℕ} {s : Totals} {a : Answer} {x x′ : Bytes} {y y′ z z′ : List ℕ}
-    → Outcome 0x2C sum f text ends rows (Taken s) x y z → s .report ≡ 0 → Outcome 0x2C 0 f text ends rows a x′ y′ z′
+    → ReadOutcome 0x2C sum f text ends rows (Taken s) x y z → s .report ≡ 0 → ReadOutcome 0x2C 0 f text ends rows a x′ y′ z′
     → (a ≡ Taken s) × (x′ ≡ x) × (y′ ≡ y) × (z′ ≡ z)
-office-auditor-read {sum} {f} (Outcome.filled {t} {r} h k) e o =
+office-auditor-read {sum} {f} (ReadOutcome.filled {t} {r} h k) e o =
     let strict = office-auditor (subst (Accepted 0x2C sum f t) e h) in
-    let same = one-outcome o (Outcome.filled strict k) in
+    let same = one-outcome o (ReadOutcome.filled strict k) in
     (same .0 ∙ ap (λ (n : ℕ). Taken (totalsOf t n)) (sym e), same .1, same .2, same .3)
 
 -- the used part of the three buffers is well formed, and is the grammar's table
@@ -92,13 +92,13 @@ pub record Holding (b sum : ℕ) (f : Bytes) (s : Totals) (x : Bytes) (y z : Lis
 
 pub read-table :
     {b sum : ℕ} {f text : Bytes} {ends rows : List ℕ} {s : Totals} {x : Bytes} {y z : List ℕ}
-    → Outcome b sum f text ends rows (Taken s) x y z → Holding b sum f s x y z
-read-table {b} {sum} {text} {ends} {rows} (Outcome.filled {t} h k) =
+    → ReadOutcome b sum f text ends rows (Taken s) x y z → Holding b sum f s x y z
+read-table {b} {sum} {text} {ends} {rows} (ReadOutcome.filled {t} h k) =
     record {
       table = t;
       accepted = h;
       table-is = rw (used-text, used-ends, used-rows) (table-back t);
-      formed = rw (used-text, used-ends, used-rows) (table-well-formed t (reading-held (h .reading) .some-field));
+      formed = rw (used-text, used-ends, used-rows) (table-well-formed t (reading-can-hold (h .reading) .some-field));
     }
   where
     used-text : take (length (textOf t)) (over (textOf t) text) ≡ textOf t

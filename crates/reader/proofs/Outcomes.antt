@@ -16,7 +16,7 @@ use Rattle.format.proofs.Memory.{length-lengths}
 use Rattle.pieces.specs.Answers.{Answers, accepted, refused}
 use Rattle.fill.specs.Fill.{textIn, endsIn, rowsIn}
 use Rattle.format.specs.Filling.{over}
-use Rattle.reader.specs.Read.{NoRoom, no-text, no-ends, no-rows, Outcome}
+use Rattle.reader.specs.Read.{NoRoom, no-text, no-ends, no-rows, ReadOutcome}
 use Rattle.fill.proofs.Flow.{filled}
 
 -- what the second walk has to write is the table
@@ -46,29 +46,29 @@ accepts-it {b} {sum} {f} e h = subst (Answers b sum f) e h
 module _ {b sum : ℕ} {f text : Bytes} {ends rows : List ℕ} where
   -- a refusal of the check is the outcome
   pub declines :
-      {a : Answer} {n : ℕ} {p : Place} → a ≡ Declined n p → Answers b sum f a → Outcome b sum f text ends rows (Declined n p) text ends rows
+      {a : Answer} {n : ℕ} {p : Place} → a ≡ Declined n p → Answers b sum f a → ReadOutcome b sum f text ends rows (Declined n p) text ends rows
   declines e h = go (subst (Answers b sum f) e h)
     where
-      go : {n : ℕ} {p : Place} → Answers b sum f (Declined n p) → Outcome b sum f text ends rows (Declined n p) text ends rows
-      go (refused h) = Outcome.refused h
+      go : {n : ℕ} {p : Place} → Answers b sum f (Declined n p) → ReadOutcome b sum f text ends rows (Declined n p) text ends rows
+      go (refused h) = ReadOutcome.refused h
 
   lacks : {t : Table} {r n : ℕ} {a : Answer} → Accepted b sum f t r → NoRoom t text ends rows n → a ≡ Declined n (place 0 0 0)
-      → Outcome b sum f text ends rows a text ends rows
-  lacks h k e = subst (λ (a : Answer). Outcome b sum f text ends rows a text ends rows) (sym e) (Outcome.no-room h k)
+      → ReadOutcome b sum f text ends rows a text ends rows
+  lacks h k e = subst (λ (a : Answer). ReadOutcome b sum f text ends rows a text ends rows) (sym e) (ReadOutcome.no-room h k)
 
   pub lacks-text :
       {s : Totals} {a : Answer} → Answers b sum f (Taken s) → length text < s .text → a ≡ Declined 11 (place 0 0 0)
-      → Outcome b sum f text ends rows a text ends rows
+      → ReadOutcome b sum f text ends rows a text ends rows
   lacks-text (accepted h) k = lacks h (no-text k)
 
   pub lacks-ends :
       {s : Totals} {a : Answer} → Answers b sum f (Taken s) → s .text ≤ length text → length ends < s .fields .0 → a ≡ Declined 12 (place 0 0 0)
-      → Outcome b sum f text ends rows a text ends rows
+      → ReadOutcome b sum f text ends rows a text ends rows
   lacks-ends (accepted h) i k = lacks h (no-ends i k)
 
   pub lacks-rows :
       {s : Totals} {a : Answer} → Answers b sum f (Taken s) → s .text ≤ length text → s .fields .0 ≤ length ends → length rows < s .records
-      → a ≡ Declined 13 (place 0 0 0) → Outcome b sum f text ends rows a text ends rows
+      → a ≡ Declined 13 (place 0 0 0) → ReadOutcome b sum f text ends rows a text ends rows
   lacks-rows (accepted h) i j k = lacks h (no-rows i j k)
 
   -- what the second walk has written is the outcome
@@ -76,7 +76,7 @@ module _ {b sum : ℕ} {f text : Bytes} {ends rows : List ℕ} where
       {s : Totals} {text′ : Bytes} {ends′ rows′ : List ℕ}
       → Answers b sum f (Taken s) → s .text ≤ length text → s .fields .0 ≤ length ends → s .records ≤ length rows
       → text′ ≡ over (textIn (dialect b sum) f) text → ends′ ≡ over (endsIn (dialect b sum) f) ends
-      → rows′ ≡ over (rowsIn (dialect b sum) f) rows → Outcome b sum f text ends rows (Taken s) text′ ends′ rows′
+      → rows′ ≡ over (rowsIn (dialect b sum) f) rows → ReadOutcome b sum f text ends rows (Taken s) text′ ends′ rows′
   fills (accepted h) i j k x y z =
       let w = walked h in
-      rw (x, y, z, w .text-is, w .ends-is, w .rows-is) (Outcome.filled h (record { for-text = i; for-ends = j; for-rows = k }))
+      rw (x, y, z, w .text-is, w .ends-is, w .rows-is) (ReadOutcome.filled h (record { for-text = i; for-ends = j; for-rows = k }))

@@ -23,12 +23,12 @@ pub data NoRoom (t : Table) (text : Bytes) (ends rows : List ℕ) : ℕ → Type
   no-ends : length (textOf t) ≤ length text → length ends < length (flatten t) → NoRoom t text ends rows 12
   no-rows : length (textOf t) ≤ length text → length (flatten t) ≤ length ends → length rows < length t → NoRoom t text ends rows 13
 
--- `Outcome b sum f text ends rows a text′ ends′ rows′`: the file f, in the dialect of two bytes, read into three buffers, is answered by a, and the
+-- `ReadOutcome b sum f text ends rows a text′ ends′ rows′`: the file f, in the dialect of two bytes, read into three buffers, is answered by a, and the
 -- buffers are then the last three. Where the file is refused or there is no room they are as they were.
-pub data Outcome (b sum : ℕ) (f text : Bytes) (ends rows : List ℕ) : Answer → Bytes → List ℕ → List ℕ → Type 0 where
-  refused : {n : ℕ} {p : Place} → Refused b sum f n p → Outcome b sum f text ends rows (Declined n p) text ends rows
+pub data ReadOutcome (b sum : ℕ) (f text : Bytes) (ends rows : List ℕ) : Answer → Bytes → List ℕ → List ℕ → Type 0 where
+  refused : {n : ℕ} {p : Place} → Refused b sum f n p → ReadOutcome b sum f text ends rows (Declined n p) text ends rows
   no-room : {t : Table} {r n : ℕ}
-      → Accepted b sum f t r → NoRoom t text ends rows n → Outcome b sum f text ends rows (Declined n (place 0 0 0)) text ends rows
+      → Accepted b sum f t r → NoRoom t text ends rows n → ReadOutcome b sum f text ends rows (Declined n (place 0 0 0)) text ends rows
   filled : {t : Table} {r : ℕ}
       → Accepted b sum f t r → Room t text ends rows
-      → Outcome b sum f text ends rows (Taken (totalsOf t r)) (over (textOf t) text) (over (endsOf t) ends) (over (rowsOf t) rows)
+      → ReadOutcome b sum f text ends rows (Taken (totalsOf t r)) (over (textOf t) text) (over (endsOf t) ends) (over (rowsOf t) rows)

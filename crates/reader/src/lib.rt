@@ -11,7 +11,7 @@ ghost use Rattle.format.specs.Place.{place};
 ghost use Rattle.format.specs.declared.Answer.{the-variants.Taken, the-variants.Declined};
 ghost use Rattle.fill.specs.Fill.{textIn, endsIn, rowsIn};
 ghost use Rattle.pieces.specs.Answers.{Answers};
-ghost use Rattle.reader.specs.Read.{Outcome};
+ghost use Rattle.reader.specs.Read.{ReadOutcome};
 use fill::Head;
 use format::Answer;
 use format::ByteOffset;
@@ -30,7 +30,7 @@ pub fn read(
     ends: &mut [u32],
     rows: &mut [u32],
 ) -> Answer
-    ensures { λ r. ⌜ Outcome delimiter leniencies (now (file .entry)) (now (text .entry)) (now (ends .entry)) (now (rows .entry)) r (now (text .exit)) (now (ends .exit)) (now (rows .exit)) ⌝ }
+    ensures { λ r. ⌜ ReadOutcome delimiter leniencies (now (file .entry)) (now (text .entry)) (now (ends .entry)) (now (rows .entry)) r (now (text .exit)) (now (ends .exit)) (now (rows .exit)) ⌝ }
 {
     let answer = checked(file, delimiter, leniencies);
     match answer {
@@ -41,7 +41,7 @@ pub fn read(
 
 // Reads a file in the strict dialect: comma, and no leniency.
 pub fn read_strict(file: &[u8], text: &mut [u8], ends: &mut [u32], rows: &mut [u32]) -> Answer
-    ensures { λ r. ⌜ Outcome 0x2C 0 (now (file .entry)) (now (text .entry)) (now (ends .entry)) (now (rows .entry)) r (now (text .exit)) (now (ends .exit)) (now (rows .exit)) ⌝ }
+    ensures { λ r. ⌜ ReadOutcome 0x2C 0 (now (file .entry)) (now (text .entry)) (now (ends .entry)) (now (rows .entry)) r (now (text .exit)) (now (ends .exit)) (now (rows .exit)) ⌝ }
 {
     read(file, b',', 0, text, ends, rows)
 }
@@ -64,7 +64,7 @@ fn read_accepted(
     rows: &mut [u32],
 ) -> Answer
     requires { ⌜ Answers delimiter leniencies (now file) (Taken t) ⌝ }
-    ensures { λ r. ⌜ Outcome delimiter leniencies (now (file .entry)) (now (text .entry)) (now (ends .entry)) (now (rows .entry)) r (now (text .exit)) (now (ends .exit)) (now (rows .exit)) ⌝ }
+    ensures { λ r. ⌜ ReadOutcome delimiter leniencies (now (file .entry)) (now (text .entry)) (now (ends .entry)) (now (rows .entry)) r (now (text .exit)) (now (ends .exit)) (now (rows .exit)) ⌝ }
 {
     if text.len() < t.text as usize {
         return no_room(11);

@@ -9,7 +9,7 @@ use lib.ListN.{getD, drop}
 use borrow.Author.Tests.{eqb-true, eqb-false, ne-eqb, leb-true, le-leb, lt-leb}
 use Rattle.format.specs.Table.{Bytes}
 use Rattle.format.specs.Dialect.{Dialect, strict, isWide, Class, text, blank, delimiter, quote, CR, LF, forbidden, classOf}
-use Rattle.format.proofs.Classes.{quotedClass, text-unmarked, CR-inside, printed-inside, textdata-range, Strict, strict-text, strict-comma, strict-quote, strict-CR, strict-LF, strict-other, strict-class}
+use Rattle.format.proofs.Classes.{quotedClass, text-ordinary, CR-inside, printed-inside, textdata-range, Strict, strict-text, strict-comma, strict-quote, strict-CR, strict-LF, strict-other, strict-class}
 use Rattle.runs.specs.Runs.{run, isText, isPlain, isInner}
 use Rattle.runs.proofs.Runs.{run-holds}
 
@@ -35,7 +35,7 @@ pub plain-narrow : (d : Dialect) (b : ℕ) → isPlain d b ≡ true → isWide b
 plain-narrow d b e = plain-parts d b e .1
 
 lf-not-plain : (d : Dialect) → isPlain d 0x0A ≡ true → ⊥
-lf-not-plain d e = false≢true (sym (text-unmarked d 0x0A (plain-class d 0x0A e) .0) ∙ or-true (eqb 0x0A (d .delimiterByte)))
+lf-not-plain d e = false≢true (sym (text-ordinary d 0x0A (plain-class d 0x0A e) .0) ∙ or-true (eqb 0x0A (d .delimiterByte)))
 
 pub plain-no-lf : (d : Dialect) (b : ℕ) → isPlain d b ≡ true → eqb b 0x0A ≡ false
 plain-no-lf d b e = ne-eqb b 0x0A (λ q. lf-not-plain d (rw q at e))

@@ -10,7 +10,7 @@ use Rattle.tables.specs.Search.{Searched}
 use Rattle.tables.specs.Shown.{Located}
 use Rattle.tables.proofs.Searching.{one-found}
 use Rattle.tables.proofs.Showing.{one-place}
-use Rattle.writer.specs.Write.{Outcome}
+use Rattle.writer.specs.Write.{WriteOutcome}
 use Rattle.writer.proofs.Calls.{one-numbers}
 use Rattle.siprovault.specs.declared.SvAnswer.{SvAnswer}
 use Rattle.siprovault.specs.declared.SvWritten.{SvWritten}
@@ -33,7 +33,7 @@ one-ask p q =
 module _ {text : Bytes} {ends rows : List ℕ} where
   pub one-write :
       {mode : ℕ} {out x y : Bytes} {r s : SvWritten}
-      → Outcome text ends rows mode out (writtenNumbers r) x → Outcome text ends rows mode out (writtenNumbers s) y → (r ≡ s) × (x ≡ y)
+      → WriteOutcome text ends rows mode out (writtenNumbers r) x → WriteOutcome text ends rows mode out (writtenNumbers s) y → (r ≡ s) × (x ≡ y)
   one-write p q = let e = one-numbers p q in (ap writtenFrom (e .0), e .1)
 
   pub one-find :

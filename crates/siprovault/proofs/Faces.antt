@@ -10,7 +10,7 @@ use Rattle.format.specs.Answer.{readerNumbers, writerNumbers, searchNumbers, pa
 use Rattle.format.specs.Table.{Bytes}
 use Rattle.tables.specs.Search.{Searched}
 use Rattle.tables.specs.Shown.{Located}
-use Rattle.writer.specs.Write.{Outcome}
+use Rattle.writer.specs.Write.{WriteOutcome}
 use Rattle.siprovault.specs.declared.SvAnswer.{SvAnswer}
 use Rattle.siprovault.specs.declared.SvWritten.{SvWritten}
 use Rattle.siprovault.specs.declared.SvColumn.{SvColumn}
@@ -45,8 +45,8 @@ found-numbers Absent e = ap foundNumbers e
 module _ {text : Bytes} {ends rows : List ℕ} where
   pub writes :
       {mode : ℕ} {out out′ : Bytes} {r : SvWritten} (a : Written)
-      → Outcome text ends rows mode out (writerNumbers a) out′ → r ≡ writtenFrom (writerNumbers a) → Outcome text ends rows mode out (writtenNumbers r) out′
-  writes {mode} {out} {out′} a o e = subst (λ (l : List ℕ). Outcome text ends rows mode out l out′) (sym (written-numbers a e)) o
+      → WriteOutcome text ends rows mode out (writerNumbers a) out′ → r ≡ writtenFrom (writerNumbers a) → WriteOutcome text ends rows mode out (writtenNumbers r) out′
+  writes {mode} {out} {out′} a o e = subst (λ (l : List ℕ). WriteOutcome text ends rows mode out l out′) (sym (written-numbers a e)) o
 
   pub finds :
       {name : Bytes} {r : SvColumn} (a : Found)

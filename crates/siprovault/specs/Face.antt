@@ -12,7 +12,7 @@ use Rattle.format.specs.Table.{Bytes}
 use Rattle.format.specs.Answer.{readerNumbers}
 use Rattle.state.specs.declared.Check.{Check}
 use Rattle.pieces.specs.Answers.{Asked}
-use Rattle.reader.specs.Read.{Outcome}
+use Rattle.reader.specs.Read.{ReadOutcome}
 
 abbrev pub answerNumbers : SvAnswer → List ℕ
 answerNumbers r = r .refusal ∷ r .line ∷ r .column ∷ r .byte ∷ r .records ∷ r .fields ∷ r .text ∷ r .report ∷ []
@@ -52,7 +52,7 @@ partFrom l = record { found = getD l 0 0; start = getD l 1 0; length = getD l 2 
 -- the numbers are those of an answer that the reader's promise allows; and the check's
 pub record Reads (b sum : ℕ) (f text : Bytes) (ends rows : List ℕ) (numbers : List ℕ) (text′ : Bytes) (ends′ rows′ : List ℕ) : Type 0 where
   pub answer : Answer
-  pub outcome : Outcome b sum f text ends rows answer text′ ends′ rows′
+  pub outcome : ReadOutcome b sum f text ends rows answer text′ ends′ rows′
   pub numbers-are : numbers ≡ readerNumbers answer
 
 pub record Asks (state : Check) (numbers : List ℕ) : Type 0 where

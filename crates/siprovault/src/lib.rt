@@ -5,7 +5,7 @@ ghost use Rattle.format.specs.Answer.{readerNumbers, writerNumbers, searchNumbe
 ghost use Rattle.pieces.specs.Answers.{Started, Fed};
 ghost use Rattle.tables.specs.Search.{Searched};
 ghost use Rattle.tables.specs.Shown.{Located};
-ghost use Rattle.writer.specs.Write.{Outcome};
+ghost use Rattle.writer.specs.Write.{WriteOutcome};
 ghost use Rattle.siprovault.specs.Face.{answerNumbers, writtenNumbers, columnNumbers, foundNumbers, answerFrom, writtenFrom, columnFrom, partFrom, Reads, Asks};
 use format::Answer;
 use format::Found;
@@ -110,7 +110,7 @@ pub extern "C" fn sv_write(
     mode: u8,
     out: &mut [u8],
 ) -> SvWritten
-    ensures { λ r. ⌜ Outcome (now (text .entry)) (now (ends .entry)) (now (rows .entry)) mode (now (out .entry)) (writtenNumbers r) (now (out .exit)) ⌝ }
+    ensures { λ r. ⌜ WriteOutcome (now (text .entry)) (now (ends .entry)) (now (rows .entry)) mode (now (out .entry)) (writtenNumbers r) (now (out .exit)) ⌝ }
 {
     let answer = writer::write(text, ends, rows, mode, out);
     written(answer)

@@ -111,7 +111,7 @@ module _ (c : Check) (a : ℕ) (x : Walk) (e : Check) (o : Opened c a x e) (calm
           begun = 1;
           used = e .used;
           here = along 1 (e .here);
-          mark = e .here;
+          anchor = e .here;
           field = e .field;
           counts = e .counts;
         }
@@ -152,7 +152,7 @@ module _ (c : Check) (a : ℕ) (x : Walk) (e : Check) (o : Opened c a x e) (calm
             begun = 1;
             used = e .used;
             here = spot l t n (along 1 (e .here));
-            mark = e .here;
+            anchor = e .here;
             field = record { start = e .field .start; content = plus (plus (e .field .content) (e .field .held)) m; held = 0; number = e .field .number };
             counts = e .counts;
           }
@@ -171,14 +171,14 @@ module _ (c : Check) (a : ℕ) (x : Walk) (e : Check) (o : Opened c a x e) (calm
             begun = 1;
             used = e .used;
             here = along 1 (spot l t n (along 1 (e .here)));
-            mark = e .here;
+            anchor = e .here;
             field = record { start = e .field .start; content = plus (plus (e .field .content) (e .field .held)) m; held = 0; number = e .field .number };
             counts = e .counts;
           }
 
       pub closes : fed content-read 0x22 ≡ behind-quotes
       unfolding behind-quotes content-read
-      closes = shut-step content-read quiet refl no-quote ∙ entered-is (along 1 (content-read .here)) 4 (content-read .mark) (content-read .used) (content-read .field) content-read
+      closes = shut-step content-read quiet refl no-quote ∙ entered-is (along 1 (content-read .here)) 4 (content-read .anchor) (content-read .used) (content-read .field) content-read
 
       -- the place behind the closing quote
       module _ (z : ℕ) (ends : x .start + 1 + n ≡ z) (j : ℕ) (on-line : spot l t n (spot (x .lines) (x .start + 1 - x .line) (x .start + 1 - a) (c .here)) ≡ spot (x .lines + l) (z - j) (z - a) (c .here)) (line-in : j ≤ z) (on : a ≤ z) where

@@ -19,7 +19,7 @@ use Rattle.state.specs.Settled.{Settled}
 use Rattle.state.proofs.Jumps.{fed-join}
 use Rattle.state.proofs.Between.{Passage, inner-start, inner-line, inner-more, inner-pairs}
 use Rattle.spans.specs.declared.Inside.{Inside}
-use Rattle.spans.specs.Walk.{Between, Within, runOn, Further}
+use Rattle.spans.specs.Walk.{Between, BetweenFrom, runOn, Further}
 
 -- a walk between quotes from at, whatever the state
 pub between-start : (s : Bytes) (at : ℕ) → at ≤ length s → Between s at (record { end = at; content = 0; lines = 0; tail = 0 })
@@ -28,7 +28,7 @@ between-start s at h =
 
 -- any two lead to the same
 pub one-inside :
-    (s : Bytes) (at : ℕ) (x y : Inside) → Within s at x → Within s at y → at ≤ length s → (c : Check) → Settled c
+    (s : Bytes) (at : ℕ) (x y : Inside) → BetweenFrom s at x → BetweenFrom s at y → at ≤ length s → (c : Check) → Settled c
     → fedAll (jumped 3 (spot (x .lines) (x .tail) (x .end - at) (c .here)) (x .content) c) (drop (x .end) s)
     ≡ fedAll (jumped 3 (spot (y .lines) (y .tail) (y .end - at) (c .here)) (y .content) c) (drop (y .end) s)
 one-inside s at x y g h i c q = g .between i .same c q ∙ sym (h .between i .same c q)

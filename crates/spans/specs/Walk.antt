@@ -28,7 +28,7 @@ pub record Between (s : Bytes) (at : ℕ) (r : Inside) : Type 0 where
   pub same : (c : Check) → Settled c → fedAll (jumped 3 (spot (r .lines) (r .tail) (r .end - at) (c .here)) (r .content) c) (drop (r .end) s) ≡ fedAll c (drop at s)
 
 -- such bytes from any place on: behind the end none
-pub record Within (s : Bytes) (at : ℕ) (r : Inside) : Type 0 where
+pub record BetweenFrom (s : Bytes) (at : ℕ) (r : Inside) : Type 0 where
   pub between : at ≤ length s → Between s at r
   pub none : length s < at → r ≡ record { end = at; content = 0; lines = 0; tail = 0 }
 

@@ -7,7 +7,7 @@ ghost use mathlib.Core.Bool.{true};
 ghost use mathlib.Core.Path.{_≡_};
 ghost use Rattle.format.specs.Dialect.{dialect};
 ghost use Rattle.runs.specs.Words.{Marks, Stops};
-ghost use Rattle.spans.specs.Walk.{Within, Between, runOn, Further, lastLine, Level, placedAt, fieldOn, rowOn, Closed, endAt, endedBy, Fits, Sized, Walking, Goes, Leading};
+ghost use Rattle.spans.specs.Walk.{BetweenFrom, Between, runOn, Further, lastLine, Level, placedAt, fieldOn, rowOn, Closed, endAt, endedBy, Fits, Sized, Walking, Goes, Leading};
 ghost use lib.ListN.{length, getD};
 ghost use Rattle.runs.specs.Runs.{isInner};
 use state::Check;
@@ -37,7 +37,7 @@ pub struct Walk {
 
 // What stands between quotes from a place on, behind the end of the bytes nothing.
 pub fn between_quotes(s: &[u8], at: usize) -> Inside
-    ensures { λ r. ⌜ Within (now (s .entry)) at r ⌝ }
+    ensures { λ r. ⌜ BetweenFrom (now (s .entry)) at r ⌝ }
 {
     if s.len() < at {
         return Inside {

@@ -27,7 +27,7 @@ settled-parts :
       begun = 1;
       used = c .used;
       here = p;
-      mark = c .mark;
+      anchor = c .anchor;
       field = record { start = c .field .start; content = m; held = 0; number = c .field .number };
       counts = c .counts;
     })
@@ -39,7 +39,7 @@ settled-parts :
       begun = b;
       used = c .used;
       here = c .here;
-      mark = c .mark;
+      anchor = c .anchor;
       field = record { start = c .field .start; content = c .field .content; held = h; number = c .field .number };
       counts = c .counts;
     })

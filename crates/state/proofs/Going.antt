@@ -15,9 +15,9 @@ use Rattle.format.specs.Count.{some}
 use Rattle.format.specs.Place.{place, placeOf}
 use Rattle.format.proofs.Places.{place-first}
 use Rattle.steps.specs.Steps.{Form, start, lead, bare, quoted, shut, tail, cr, Out, nothing, put, hold, drop, field-end, record-end, Act, refuse, go, inQuotes, behindCr}
-use Rattle.steps.specs.Model.{mark, seen, agrees}
+use Rattle.steps.specs.Model.{anchor, seen, agrees}
 use Rattle.steps.specs.Numbers.{formNumber, coded}
-use Rattle.steps.proofs.Tallies.{Flags, Account, Work, widthOf, even, Ans, stop, gives, fieldOn, recordOn, fieldUp, recordUp, field-up, record-up, agrees-even}
+use Rattle.steps.proofs.Tallies.{Flags, Account, Work, widthFrom, even, Ans, stop, gives, fieldOn, recordOn, fieldUp, recordUp, field-up, record-up, agrees-even}
 use Rattle.steps.proofs.Forward.{Point, inside, opening, none, putOn, holdOn, dropOn, ended, acting, keeps, Fits}
 use Rattle.state.specs.declared.Used.{Used}
 use Rattle.state.specs.declared.Check.{Check}
@@ -34,11 +34,11 @@ pub record Source : Type 0 where
 abbrev pub dialectOf : Source → Dialect
 dialectOf z = dialect (z .delimiter) (z .leniencies)
 
--- a point of the model, whether "bytes" was used, and the mark's place
+-- a point of the model, whether "bytes" was used, and the anchor's place
 pub record Running : Type 0 where
   pub point : Point
   pub wide : Bool
-  pub mark : Place
+  pub anchor : Place
 
 -- a flag's number
 abbrev pub num : Bool → ℕ
@@ -65,32 +65,32 @@ going z g r =
       begun = num (r .point .begun);
       used = usedOf (a .flags) (r .wide);
       here = placeOf (z .file) g;
-      mark = r .mark;
+      anchor = r .anchor;
       field = record { start = placeOf (z .file) (a .start); content = w .content; held = w .held; number = record { 0 = a .number } };
       counts = record { records = a .sums .records; fields = record { 0 = a .sums .fields }; text = a .sums .text; width = a .width };
     }
 
--- the mark's place, in the forms that have one
-abbrev pub Marked : Bytes → Form → Bytes → Place → Type 0
-Marked F start p q = Unit {0}
-Marked F lead p q = Unit {0}
-Marked F bare p q = Unit {0}
-Marked F quoted p q = q ≡ placeOf F p
-Marked F shut p q = q ≡ placeOf F p
-Marked F tail p q = Unit {0}
-Marked F cr p q = q ≡ placeOf F p
+-- the anchor's place, in the forms that have one
+abbrev pub Anchored : Bytes → Form → Bytes → Place → Type 0
+Anchored F start p q = Unit {0}
+Anchored F lead p q = Unit {0}
+Anchored F bare p q = Unit {0}
+Anchored F quoted p q = q ≡ placeOf F p
+Anchored F shut p q = q ≡ placeOf F p
+Anchored F tail p q = Unit {0}
+Anchored F cr p q = q ≡ placeOf F p
 
 -- n bytes have come: the counters are within them, so that they do not stop
-abbrev Within : ℕ → Work → Type 0
-Within n w =
+abbrev CountersWithin : ℕ → Work → Type 0
+CountersWithin n w =
     let s = w .account .sums in
     (s .text + (w .content + w .held) ≤ n) × (w .account .number ≤ n) × (s .records ≤ n) × (s .fields ≤ n)
 
 -- it may stand behind s and before g
 pub record At (z : Source) (s g : Bytes) (r : Running) : Type 0 where
   pub split : z .file ≡ s ++ g
-  pub marked : Marked (z .file) (r .point .form) (r .point .mark) (r .mark)
-  pub within : Within (length s) (r .point .work)
+  pub anchored : Anchored (z .file) (r .point .form) (r .point .anchor) (r .anchor)
+  pub within : CountersWithin (length s) (r .point .work)
 
 pub before-limit : {z : Source} {s g : Bytes} {r : Running} → At z s g r → length s + length g ≤ fileLimit
 before-limit {z} {s} {g} at = omega (arith, ap length (at .split) ∙ length-append s g, z .small)
@@ -115,9 +115,9 @@ module _ (z : Source) (g : Bytes) (r : Running) where
   made-cond k x true c o n p e i = rw (e, i)
   made-cond k x false c o n p e i = rw e
 
--- where a field begins, the mark names nothing
+-- where a field begins, the anchor names nothing
 abbrev pub anew : Bool → Point → Running
-anew y t = record { point = t; wide = y; mark = place 0 0 0 }
+anew y t = record { point = t; wide = y; anchor = place 0 0 0 }
 
 -- the end of a field and of a record at p, both before f
 module _ {z : Source} {s g : Bytes} {r : Running} (at : At z s g r) (y : Bool) (f : Bytes) where
@@ -153,47 +153,47 @@ module _ {z : Source} {s g : Bytes} {r : Running} (at : At z s g r) (y : Bool) (
   record-ended p l =
       let n : plus (a .sums .records) 1 ≡ a .sums .records + 1 = omega (arith, at .within, before-limit at) in
       let next : Ans Point = gives (opening false (recordOn l f (ended w))) in
-      let wide = agrees (dialectOf z) (widthOf (a .width)) (suc (a .number)) in
+      let wide = agrees (dialectOf z) (widthFrom (a .width)) (suc (a .number)) in
       made-cond z g r (anew y) _ (leb (w .content) contentLimit) _ (cond wide next (stop 10 p)) 9 (a .start) refl
       (made-cond z g r (anew y) _ wide _ next 10 p
       (ap (λ (e : Bool). names (z .leniencies) ragged || e) even-is ∙ agrees-even (dialectOf z) (a .width) (a .number))
       (rw (even-is, noting-num l (a .flags .lf), noting-num (some (w .held)) (a .flags .blanks), noting-num (not (even (a .width) (suc (a .number)))) (a .flags .ragged), one-more, n, more-fields, more-text)))
 
--- forms, by the code and by the model: the place of a break or a fault, and the mark behind an act
+-- forms, by the code and by the model: the place of a break or a fault, and the anchor behind an act
 behind-is : (k : Form) → leb 6 (formNumber k) ≡ behindCr k
 behind-is = elim [ start ↦ refl | lead ↦ refl | bare ↦ refl | quoted ↦ refl | shut ↦ refl | tail ↦ refl | cr ↦ refl ]
 
 module _ (F here p : Bytes) (q : Place) where
-  seen-is : (k : Form) → Marked F k p q → cond (leb 6 (formNumber k)) q (placeOf F here) ≡ placeOf F (seen k here p)
+  seen-is : (k : Form) → Anchored F k p q → cond (leb 6 (formNumber k)) q (placeOf F here) ≡ placeOf F (seen k here p)
   seen-is = elim [ start ↦ λ i. refl | lead ↦ λ i. refl | bare ↦ λ i. refl | quoted ↦ λ i. refl | shut ↦ λ i. refl | tail ↦ λ i. refl | cr ↦ λ i. i ]
 
-  quotes : (k : Form) → Marked F k p q → cond (inQuotes k) q (placeOf F here) ≡ placeOf F (cond (inQuotes k) p here)
+  quotes : (k : Form) → Anchored F k p q → cond (inQuotes k) q (placeOf F here) ≡ placeOf F (cond (inQuotes k) p here)
   quotes = elim [ start ↦ λ i. refl | lead ↦ λ i. refl | bare ↦ λ i. refl | quoted ↦ λ i. i | shut ↦ λ i. i | tail ↦ λ i. refl | cr ↦ λ i. refl ]
 
-  mark-on : (k j : Form) (o : Out) → Fits k (go j o) → Marked F k p q → Marked F j (mark k j here p) (cond (keeps j o) q (placeOf F here))
-  mark-on k start o e i = tt
-  mark-on k lead o e i = tt
-  mark-on k bare o e i = tt
-  mark-on k quoted o e i = rw e (quotes k i)
-  mark-on k shut o e i = rw e (quotes k i)
-  mark-on k tail o e i = tt
-  mark-on k cr o e i = rw e
+  anchor-on : (k j : Form) (o : Out) → Fits k (go j o) → Anchored F k p q → Anchored F j (anchor k j here p) (cond (keeps j o) q (placeOf F here))
+  anchor-on k start o e i = tt
+  anchor-on k lead o e i = tt
+  anchor-on k bare o e i = tt
+  anchor-on k quoted o e i = rw e (quotes k i)
+  anchor-on k shut o e i = rw e (quotes k i)
+  anchor-on k tail o e i = tt
+  anchor-on k cr o e i = rw e
 
 -- what an act adds to its point, at the byte b before f
 abbrev pub wideOn : Source → ℕ → Running → Bool
 wideOn z b r = onlyWide (z .delimiter) b || r .wide
 
-abbrev markOf : Act → Place → Place → Place
-markOf (refuse n) here q = q
-markOf (go j nothing) here q = cond (keeps j nothing) q here
-markOf (go j put) here q = q
-markOf (go j hold) here q = q
-markOf (go j drop) here q = q
-markOf (go j field-end) here q = place 0 0 0
-markOf (go j record-end) here q = place 0 0 0
+abbrev anchorOf : Act → Place → Place → Place
+anchorOf (refuse n) here q = q
+anchorOf (go j nothing) here q = cond (keeps j nothing) q here
+anchorOf (go j put) here q = q
+anchorOf (go j hold) here q = q
+anchorOf (go j drop) here q = q
+anchorOf (go j field-end) here q = place 0 0 0
+anchorOf (go j record-end) here q = place 0 0 0
 
 abbrev pub adds : Source → ℕ → Bytes → Running → Act → Point → Running
-adds z b f r a t = record { point = t; wide = wideOn z b r; mark = markOf a (placeOf (z .file) (b ∷ f)) (r .mark) }
+adds z b f r a t = record { point = t; wide = wideOn z b r; anchor = anchorOf a (placeOf (z .file) (b ∷ f)) (r .anchor) }
 
 -- the states that it may make stand behind the byte
 abbrev pub AtThen : Source → Bytes → Bytes → (Point → Running) → Ans Point → Type 0
@@ -204,8 +204,8 @@ module _ {z : Source} {s : Bytes} {b : ℕ} {f : Bytes} {r : Running} (at : At z
   abbrev t : Point
   t = r .point
 
-  seen-here : cond (leb 6 (formNumber (t .form))) (r .mark) (placeOf (z .file) (b ∷ f)) ≡ placeOf (z .file) (seen (t .form) (b ∷ f) (t .mark))
-  seen-here = seen-is (z .file) (b ∷ f) (t .mark) (r .mark) (t .form) (at .marked)
+  seen-here : cond (leb 6 (formNumber (t .form))) (r .anchor) (placeOf (z .file) (b ∷ f)) ≡ placeOf (z .file) (seen (t .form) (b ∷ f) (t .anchor))
+  seen-here = seen-is (z .file) (b ∷ f) (t .anchor) (r .anchor) (t .form) (at .anchored)
 
   pub acted :
       (a : Act)
@@ -222,16 +222,16 @@ module _ {z : Source} {s : Bytes} {b : ℕ} {f : Bytes} {r : Running} (at : At z
       rw e
   acted (go j drop) = refl
   acted (go j field-end) = field-ended at (wideOn z b r) f
-  acted (go j record-end) = rw (seen-here, behind-is (t .form)) (record-ended at (wideOn z b r) f (seen (t .form) (b ∷ f) (t .mark)) (not (behindCr (t .form))))
+  acted (go j record-end) = rw (seen-here, behind-is (t .form)) (record-ended at (wideOn z b r) f (seen (t .form) (b ∷ f) (t .anchor)) (not (behindCr (t .form))))
 
-  next-at : (r′ : Running) → Marked (z .file) (r′ .point .form) (r′ .point .mark) (r′ .mark) → Within (length s + 1) (r′ .point .work) → At z (s ++ (b ∷ [])) f r′
-  next-at r′ i k = record { split = at .split ∙ sym (append-assoc s (b ∷ []) f); marked = i; within = rw (length-append s (b ∷ [])) k }
+  next-at : (r′ : Running) → Anchored (z .file) (r′ .point .form) (r′ .point .anchor) (r′ .anchor) → CountersWithin (length s + 1) (r′ .point .work) → At z (s ++ (b ∷ [])) f r′
+  next-at r′ i k = record { split = at .split ∙ sym (append-assoc s (b ∷ []) f); anchored = i; within = rw (length-append s (b ∷ [])) k }
 
   inside-at :
-      (j : Form) (o : Out) (w : Work) → Fits (t .form) (go j o) → Within (length s + 1) w
+      (j : Form) (o : Out) (w : Work) → Fits (t .form) (go j o) → CountersWithin (length s + 1) w
       → At z (s ++ (b ∷ [])) f
-      (record { point = inside j (mark (t .form) j (b ∷ f) (t .mark)) w; wide = wideOn z b r; mark = cond (keeps j o) (r .mark) (placeOf (z .file) (b ∷ f)) })
-  inside-at j o w i k = next-at _ (mark-on (z .file) (b ∷ f) (t .mark) (r .mark) (t .form) j o i (at .marked)) k
+      (record { point = inside j (anchor (t .form) j (b ∷ f) (t .anchor)) w; wide = wideOn z b r; anchor = cond (keeps j o) (r .anchor) (placeOf (z .file) (b ∷ f)) })
+  inside-at j o w i k = next-at _ (anchor-on (z .file) (b ∷ f) (t .anchor) (r .anchor) (t .form) j o i (at .anchored)) k
 
   pub acted-at : (a : Act) → Fits (t .form) a → AtThen z (s ++ (b ∷ [])) f (adds z b f r a) (acting (dialectOf z) a b f t)
   acted-at (refuse n) i = i
@@ -263,7 +263,7 @@ abbrev pub first : Bytes → Running
 first f = anew false (opening false (none f))
 
 pub first-at : (z : Source) → At z [] (z .file) (first (z .file))
-first-at z = record { split = refl; marked = tt; within = omega arith }
+first-at z = record { split = refl; anchored = tt; within = omega arith }
 
 pub started-going : (z : Source) → started (z .delimiter) (z .leniencies) ≡ going z (z .file) (first (z .file))
 unfolding started

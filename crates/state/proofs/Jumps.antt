@@ -81,7 +81,7 @@ jump-jump j k p q m n c =
     rw e
 
 -- a quote that may be the first of a pair, and the second behind it
-pub shut-step : (c : Check) → c .refusal ≡ 0 → c .form ≡ 3 → (c .delimiter ≡ 0x22 → ⊥) → fed c 0x22 ≡ placed (along 1 (c .here)) (entered 4 (c .mark) (c .used) (c .field) c)
+pub shut-step : (c : Check) → c .refusal ≡ 0 → c .form ≡ 3 → (c .delimiter ≡ 0x22 → ⊥) → fed c 0x22 ≡ placed (along 1 (c .here)) (entered 4 (c .anchor) (c .used) (c .field) c)
 unfolding stepped
 shut-step c r f d =
     rw (fed-is c 0x22 quoted quote r f (quote-beside (dialect (c .delimiter) (c .leniencies)) d), quote-shuts (names (c .leniencies) lf), noted-none 0x22 c refl, moved-along 0x22 (c .here) refl)
@@ -94,7 +94,7 @@ second-step c r f d =
 pair-step : (c : Check) → c .refusal ≡ 0 → c .form ≡ 3 → (c .delimiter ≡ 0x22 → ⊥) → fed (fed c 0x22) 0x22 ≡ jumped 3 (along 2 (c .here)) 1 c
 unfolding jumped entered placed
 pair-step c r f d =
-    let e = placed (along 1 (c .here)) (entered 4 (c .mark) (c .used) (c .field) c) in
+    let e = placed (along 1 (c .here)) (entered 4 (c .anchor) (c .used) (c .field) c) in
     let p : plus (plus (c .here .column .0) 1) 1 ≡ plus (c .here .column .0) 2 = omega arith in
     let q : plus (plus (c .here .byte .0) 1) 1 ≡ plus (c .here .byte .0) 2 = omega arith in
     rw (shut-step c r f d, second-step e r refl d, p, q)
@@ -173,7 +173,7 @@ between-keep c p m o = record { refusal = o .refusal; form = refl }
 -- a quote that may close the field, and the second of a pair, whatever number stands for it
 pub one-shut :
     (c : Check) (b : ℕ) → c .refusal ≡ 0 → c .form ≡ 3 → b ≡ 0x22 → (c .delimiter ≡ 0x22 → ⊥)
-    → fed c b ≡ placed (along 1 (c .here)) (entered 4 (c .mark) (c .used) (c .field) c)
+    → fed c b ≡ placed (along 1 (c .here)) (entered 4 (c .anchor) (c .used) (c .field) c)
 one-shut c b r f e d = rw e (shut-step c r f d)
 
 pub one-second : (c : Check) (b : ℕ) → c .refusal ≡ 0 → c .form ≡ 4 → b ≡ 0x22 → (c .delimiter ≡ 0x22 → ⊥) → fed c b ≡ jumped 3 (along 1 (c .here)) 1 c

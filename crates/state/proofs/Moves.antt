@@ -34,15 +34,15 @@ fed-cons c b g = refl
 -- a refusal stays
 pub record Refuses (n : ℕ) (p : Place) (c : Check) : Type 0 where
   pub refusal : c .refusal ≡ n
-  pub mark : c .mark ≡ p
+  pub anchor : c .anchor ≡ p
 
 pub stopped-refuses : (n : ℕ) (p : Place) (c : Check) → Refuses n p (stopped n p c)
 unfolding stopped
-stopped-refuses n p c = record { refusal = refl; mark = refl }
+stopped-refuses n p c = record { refusal = refl; anchor = refl }
 
 pub placed-refuses : (n : ℕ) (p q : Place) (c : Check) → Refuses n p c → Refuses n p (placed q c)
 unfolding placed
-placed-refuses n p q c r = record { refusal = r .refusal; mark = r .mark }
+placed-refuses n p q c r = record { refusal = r .refusal; anchor = r .anchor }
 
 pub fed-refuses : (g : Bytes) (n : ℕ) (p : Place) (c : Check) → eqb n 0 ≡ false → Refuses n p c → Refuses n p (fedAll c g)
 fed-refuses [] n p c e r = rw (fed-none c) r

@@ -22,7 +22,7 @@ pub started-is :
       begun = 0;
       used = record { lf = 0; blanks = 0; ragged = 0; bytes = 0 };
       here = place 1 1 0;
-      mark = place 0 0 0;
+      anchor = place 0 0 0;
       field = newField (place 1 1 0) 0;
       counts = record { records = 0; fields = record { 0 = 0 }; text = 0; width = 0 };
     }
@@ -41,7 +41,7 @@ pub entered-is :
       begun = 1;
       used = v;
       here = p;
-      mark = q;
+      anchor = q;
       field = x;
       counts = c .counts;
     }
@@ -59,7 +59,7 @@ pub opened-is :
       begun = b;
       used = v;
       here = p;
-      mark = place 0 0 0;
+      anchor = place 0 0 0;
       field = x;
       counts = s;
     }
@@ -78,7 +78,7 @@ pub jumped-is :
       begun = 1;
       used = c .used;
       here = p;
-      mark = c .mark;
+      anchor = c .anchor;
       field = grown c (plus (plus (c .field .content) (c .field .held)) m) 0;
       counts = c .counts;
     }

@@ -31,7 +31,7 @@ started b sum =
       begun = 0;
       used = record { lf = 0; blanks = 0; ragged = 0; bytes = 0 };
       here = place 1 1 0;
-      mark = place 0 0 0;
+      anchor = place 0 0 0;
       field = newField (place 1 1 0) 0;
       counts = record { records = 0; fields = record { 0 = 0 }; text = 0; width = 0 };
     }
@@ -47,7 +47,7 @@ stopped n p c =
       begun = c .begun;
       used = c .used;
       here = c .here;
-      mark = p;
+      anchor = p;
       field = c .field;
       counts = c .counts;
     }
@@ -63,12 +63,12 @@ entered k p v x c =
       begun = 1;
       used = v;
       here = c .here;
-      mark = p;
+      anchor = p;
       field = x;
       counts = c .counts;
     }
 
--- on to the start of a field, of the same record or of the next, where the mark names nothing
+-- on to the start of a field, of the same record or of the next, where the anchor names nothing
 unfoldable pub opened : ℕ → Used → Current → Counts → Check → Check
 opened u v x s c =
     record {
@@ -79,7 +79,7 @@ opened u v x s c =
       begun = u;
       used = v;
       here = c .here;
-      mark = place 0 0 0;
+      anchor = place 0 0 0;
       field = x;
       counts = s;
     }
@@ -95,7 +95,7 @@ placed p c =
       begun = c .begun;
       used = c .used;
       here = p;
-      mark = c .mark;
+      anchor = c .anchor;
       field = c .field;
       counts = c .counts;
     }
@@ -184,7 +184,7 @@ recordEnded v at next l c =
 
 -- the place of a break or a fault that is seen here: behind a CR it is that of the CR
 abbrev pub seenAt : Check → Place
-seenAt c = cond (leb 6 (c .form)) (c .mark) (c .here)
+seenAt c = cond (leb 6 (c .form)) (c .anchor) (c .here)
 
 -- the field in work with other counts
 abbrev pub grown : Check → ℕ → ℕ → Current
@@ -193,10 +193,10 @@ grown c m h = record { start = c .field .start; content = m; held = h; number = 
 -- what a step does
 unfoldable pub stepped : Stepped → Used → Place → Check → Check
 stepped (Refuse n) v next c = stopped n (seenAt c) c
-stepped (Quiet k) v next c = entered k (cond (eqb k 4) (c .mark) (c .here)) v (c .field) c
-stepped (Put k) v next c = entered k (c .mark) v (grown c (plus (plus (c .field .content) (c .field .held)) 1) 0) c
-stepped (Hold k) v next c = entered k (c .mark) v (grown c (c .field .content) (plus (c .field .held) 1)) c
-stepped (Drop k) v next c = entered k (c .mark) (record { lf = v .lf; blanks = 1; ragged = v .ragged; bytes = v .bytes }) (c .field) c
+stepped (Quiet k) v next c = entered k (cond (eqb k 4) (c .anchor) (c .here)) v (c .field) c
+stepped (Put k) v next c = entered k (c .anchor) v (grown c (plus (plus (c .field .content) (c .field .held)) 1) 0) c
+stepped (Hold k) v next c = entered k (c .anchor) v (grown c (c .field .content) (plus (c .field .held) 1)) c
+stepped (Drop k) v next c = entered k (c .anchor) (record { lf = v .lf; blanks = 1; ragged = v .ragged; bytes = v .bytes }) (c .field) c
 stepped EndField v next c = fieldEnded v next c
 stepped EndRecord v next c = recordEnded v (seenAt c) next (not (leb 6 (c .form))) c
 
@@ -215,4 +215,4 @@ fedAll c (b ∷ f) = fedAll (fed c b) f
 
 -- content of m bytes at once, and on to a form inside the field and to a place
 unfoldable pub jumped : ℕ → Place → ℕ → Check → Check
-jumped k p m c = placed p (entered k (c .mark) (c .used) (grown c (plus (plus (c .field .content) (c .field .held)) m) 0) c)
+jumped k p m c = placed p (entered k (c .anchor) (c .used) (grown c (plus (plus (c .field .content) (c .field .held)) m) 0) c)

@@ -38,7 +38,7 @@ pub struct Counts {
     pub width: u32,
 }
 
-// A check's state. The mark is the place of the opening quote inside quotes, of the CR behind one, and
+// A check's state. The anchor is the place of the opening quote inside quotes, of the CR behind one, and
 // the place that a refusal names once there is one. begun is 0 where no byte came since the last
 // record's end.
 #[repr(C)]
@@ -50,7 +50,7 @@ pub struct Check {
     pub begun: u8,
     pub used: Used,
     pub here: Place,
-    pub mark: Place,
+    pub anchor: Place,
     pub field: Current,
     pub counts: Counts,
 }
@@ -170,25 +170,25 @@ impl Check {
     fn stepped(self, s: Stepped, v: Used, next: Place) -> Check
         ensures { λ r. ⌜ r ≡ stepped s v next self ⌝ }
     {
-        let mark = self.mark;
+        let anchor = self.anchor;
         let field = self.field;
         match s {
             Stepped::Refuse(n) => self.stopped(n, self.seen_at()),
             Stepped::Quiet(k) => {
                 let here = self.here;
-                let p = if k == 4 { mark } else { here };
+                let p = if k == 4 { anchor } else { here };
                 self.entered(k, p, v, field)
             }
             Stepped::Put(k) => self.filled(k, v, 1),
             Stepped::Hold(k) => {
                 let mut x = field;
                 x.held = places::plus(field.held, 1);
-                self.entered(k, mark, v, x)
+                self.entered(k, anchor, v, x)
             }
             Stepped::Drop(k) => {
                 let mut w = v;
                 w.blanks = 1;
-                self.entered(k, mark, w, field)
+                self.entered(k, anchor, w, field)
             }
             Stepped::EndField => self.field_ended(v, next),
             Stepped::EndRecord => {
@@ -200,13 +200,13 @@ impl Check {
 
     // Content of m bytes more, behind the blanks held, and on to a form inside the field.
     fn filled(self, k: u8, v: Used, m: usize) -> Check
-        ensures { λ r. ⌜ r ≡ entered k (self .mark) v (grown self (plus (plus (self .field .content) (self .field .held)) m) 0) self ⌝ }
+        ensures { λ r. ⌜ r ≡ entered k (self .anchor) v (grown self (plus (plus (self .field .content) (self .field .held)) m) 0) self ⌝ }
     {
         let mut x = self.field;
         x.content = places::plus(places::plus(x.content, x.held as usize), m);
         x.held = 0;
-        let mark = self.mark;
-        self.entered(k, mark, v, x)
+        let anchor = self.anchor;
+        self.entered(k, anchor, v, x)
     }
 
     // The field ends, and the next one begins.
@@ -258,7 +258,7 @@ impl Check {
     {
         let mut c = self;
         c.refusal = n;
-        c.mark = p;
+        c.anchor = p;
         c
     }
 
@@ -270,7 +270,7 @@ impl Check {
         c.form = k;
         c.begun = 1;
         c.used = v;
-        c.mark = p;
+        c.anchor = p;
         c.field = x;
         c
     }
@@ -285,8 +285,8 @@ impl Check {
         c.used = v;
         c.field = x;
         c.counts = s;
-        let mark = places::nowhere();
-        c.mark = mark;
+        let anchor = places::nowhere();
+        c.anchor = anchor;
         c
     }
 
@@ -312,6 +312,10 @@ impl Check {
     fn seen_at(self) -> Place
         ensures { λ r. ⌜ r ≡ seenAt self ⌝ }
     {
-        if 6 <= self.form { self.mark } else { self.here }
+        if 6 <= self.form {
+            self.anchor
+        } else {
+            self.here
+        }
     }
 }

@@ -48,22 +48,22 @@ cases =
     ∷ []
 
 -- what a case claims
-abbrev pub Says : ℕ → Bytes → Answered → Type 0
-Says s f (counts r k n u) = (t : Table) × Accepted 0x2C s f t u × (length t ≡ r) × (length (flatten t) ≡ k) × (length (textOf t) ≡ n)
-Says s f (refusal n l c b) = Refused 0x2C s f n (place l c b)
+abbrev pub ClaimOf : ℕ → Bytes → Answered → Type 0
+ClaimOf s f (counts r k n u) = (t : Table) × Accepted 0x2C s f t u × (length t ≡ r) × (length (flatten t) ≡ k) × (length (textOf t) ≡ n)
+ClaimOf s f (refusal n l c b) = Refused 0x2C s f n (place l c b)
 
 abbrev pub Claim : Case → Type 0
-Claim x = Says (x .sum) (x .file) (x .answer)
+Claim x = ClaimOf (x .sum) (x .file) (x .answer)
 
 -- the model's verdict in the same numbers
 abbrev answered : Verdict → Answered
 answered (accepts t r) = counts (length t) (length (flatten t)) (length (textOf t)) r
 answered (refuses n p) = refusal n (p .line .0) (p .column .0) (p .byte .0)
 
-says : (s : ℕ) (f : Bytes) → Says s f (answered (model 0x2C s f))
-says s f = go (model 0x2C s f) (model-holds 0x2C s f)
+claim-of : (s : ℕ) (f : Bytes) → ClaimOf s f (answered (model 0x2C s f))
+claim-of s f = go (model 0x2C s f) (model-holds 0x2C s f)
   where
-    go : (a : Verdict) → Holds 0x2C s f a → Says s f (answered a)
+    go : (a : Verdict) → Holds 0x2C s f a → ClaimOf s f (answered a)
     go (accepts t r) h = (t, h, refl, refl, refl)
     go (refuses n p) h = h
 
@@ -76,7 +76,7 @@ all [] e = tt
 all (x ∷ xs) e =
     let p : modelled x ≡ x .answer = cc in
     let q : map modelled xs ≡ map (λ x. x .answer) xs = cc in
-    (subst (Says (x .sum) (x .file)) p (says (x .sum) (x .file)), all xs q)
+    (subst (ClaimOf (x .sum) (x .file)) p (claim-of (x .sum) (x .file)), all xs q)
 
 -- all of them hold
 pub cases-hold : Every Claim cases

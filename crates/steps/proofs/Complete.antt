@@ -10,7 +10,7 @@ use Rattle.format.specs.Table.{Bytes, Content, lastOf}
 use Rattle.format.specs.Dialect.{lf, Dialect, Class, text, blank, delimiter, quote, CR, LF, forbidden, classOf}
 use Rattle.format.specs.Grammar.{padded, Blanks, Bare, Inside, opened, Quoted, closed, Field, Break}
 use Rattle.format.specs.Count.{blankCount, dropped, alone}
-use Rattle.format.proofs.Classes.{droppable, blank-unmarked, unpadded-ends, quoted-class, quotedClass}
+use Rattle.format.proofs.Classes.{droppable, blank-ordinary, unpadded-ends, quoted-class, quotedClass}
 use Rattle.steps.specs.Steps.{Form, start, lead, bare, quoted, shut, tail, cr, stepOf}
 use Rattle.steps.specs.Model.{Cell, cell, Trace, refused, last, field, line, change, putting, dropping, keptIn, holding, ending, doing, run}
 use Rattle.steps.proofs.Acts.{over, stops}
@@ -186,7 +186,7 @@ module _ (d : Dialect) where
 
   kept-blank : (b : ℕ) (c : Content) (n : ℕ) → classOf d b ≡ blank → EndsWell d (b ∷ c) → keptIn b c n ≡ cell (b ∷ c) n
   unfolding lastOf
-  kept-blank b [] n e h = absurd (true≢false (sym (blank-unmarked d b e .1) ∙ h))
+  kept-blank b [] n e h = absurd (true≢false (sym (blank-ordinary d b e .1) ∙ h))
   kept-blank b (y ∷ c) n e h = refl
 
   bares :
@@ -251,7 +251,7 @@ module _ (d : Dialect) where
   bare-lead y Bare.none u s = blanks-only d y s
   bare-lead y (Bare.text-byte {b} {f} {c} e k) u s =
       lead-text b f e ∙ bares y (Bare.text-byte e k) (unpadded-ends d b c u .1) s
-  bare-lead y (Bare.blank-byte {b} {c} e k) u s = absurd (true≢false (sym (blank-unmarked d b e .1) ∙ unpadded-ends d b c u .0))
+  bare-lead y (Bare.blank-byte {b} {c} e k) u s = absurd (true≢false (sym (blank-ordinary d b e .1) ∙ unpadded-ends d b c u .0))
 
   -- a field, where it is over
   pub fields : {f g : Bytes} {c : Content} (p : Field d f c g) → Stops d g → run d f start [] ≡ set (cell c (dropped f c g p)) (run d g tail [])

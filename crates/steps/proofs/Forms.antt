@@ -12,7 +12,7 @@ use Rattle.format.specs.Grammar.{padded, Blanks, Bare, Inside, Open, opened, Qu
 use Rattle.format.specs.Count.{blankCount}
 use Rattle.format.specs.Refusal.{FieldRefusal, refusal-3, refusal-3-inside, refusal-4, refusal-5, refusal-5-quote, refusal-6, refusal-7, refusal-8, refusal-9}
 use Rattle.format.specs.SoFar.{Begun}
-use Rattle.format.proofs.Classes.{droppable, text-unmarked, blank-unmarked, unpadded, unpadded-ends, quotedClass, inside-byte}
+use Rattle.format.proofs.Classes.{droppable, text-ordinary, blank-ordinary, unpadded, unpadded-ends, quotedClass, inside-byte}
 use Rattle.format.proofs.Grow.{blanks-grow, grow-count, bare-grow, inside-grow, open-grow, quoted-grow, field-grow, blanks-join, bare-join, inside-join, blanks-bare, blanks-count}
 use Rattle.steps.specs.Steps.{Form, start, lead, bare, quoted, shut, tail, cr, nothing, put, hold, drop, field-end, record-end, Act, refuse, go, behindCr, stepOf}
 use Rattle.steps.specs.Numbers.{classNumber}
@@ -70,7 +70,7 @@ module _ (d : Dialect) (b : ℕ) where
   pub first-text : (h : Bytes) → Blanks d h [] → classOf d b ≡ text → At d bare (h ++ more) (b ∷ []) 0
   unfolding lastOf blankCount
   first-text h x e =
-      let t = text-unmarked d b e .1 in
+      let t = text-ordinary d b e .1 in
       at-bare (blanks-grow d more x) (Bare.text-byte e Bare.none) (unpadded d b [] t t) Blanks.none refl
 
   open-quote : (h : Bytes) → Blanks d h [] → classOf d b ≡ quote → At d quoted (h ++ more) [] 0
@@ -83,7 +83,7 @@ module _ (d : Dialect) (b : ℕ) where
   pub put-bare : {h : Bytes} {c : Content} {n : ℕ} → At d bare h c n → classOf d b ≡ text → At d bare (h ++ more) (c ++ (replicate n 0x20 ++ more)) 0
   unfolding blankCount
   put-bare (at-bare {a} {n} {g} {c} x k p y q) e =
-      let t = text-unmarked d b e .1 in
+      let t = text-ordinary d b e .1 in
       let l : lastOf a (c ++ (replicate n 0x20 ++ more)) ≡ b = ap (lastOf a) (sym (append-assoc c (replicate n 0x20) more)) ∙ last-put b a (c ++ replicate n 0x20) in
       let z : Bare d (g ++ more) ((a ∷ c) ++ (replicate (blankCount (blanks-grow d more y)) 0x20 ++ more)) [] =
       bare-join d (bare-grow d more k) (blanks-bare d (blanks-grow d more y) (Bare.text-byte e Bare.none)) in
@@ -98,7 +98,7 @@ module _ (d : Dialect) (b : ℕ) where
   bare-fault : {h : Bytes} {c : Content} {n : ℕ} → At d bare h c n → classOf d b ≡ quote → Fault d 4 b h c
   bare-fault (at-bare x (Bare.text-byte i k) p y q) e =
       within (refusal-4 (blanks-grow d more x) i (bare-join d (bare-grow d more k) (blanks-bare d (blanks-grow d more y) Bare.none)) e)
-  bare-fault (at-bare {a} {c} x (Bare.blank-byte i k) p y q) e = absurd (true≢false (sym (blank-unmarked d a i .1) ∙ unpadded-ends d a c p .0))
+  bare-fault (at-bare {a} {c} x (Bare.blank-byte i k) p y q) e = absurd (true≢false (sym (blank-ordinary d a i .1) ∙ unpadded-ends d a c p .0))
 
   -- between quotes, and behind one that may close
   pub put-quoted : {h : Bytes} {c : Content} {n : ℕ} → At d quoted h c n → (x : Class) → T (quotedClass x) → classOf d b ≡ x → At d quoted (h ++ more) (c ++ (replicate n 0x20 ++ more)) 0

@@ -17,23 +17,23 @@ use Rattle.format.specs.Memory.{textOf}
 use Rattle.format.specs.Place.{placeOf}
 use Rattle.format.proofs.Leniencies.{no-byte-wide}
 use Rattle.steps.specs.Steps.{Form, start, lead, bare, quoted, shut, tail, cr, Out, nothing, put, hold, drop, field-end, record-end, Act, refuse, go, inQuotes, behindCr, stepOf}
-use Rattle.steps.specs.Model.{Cell, cell, Trace, refused, last, field, line, change, putting, dropping, keptIn, holding, ending, mark, seen, doing, run, Judged, declined, taken, any, agrees, judge, read, used, Verdict, accepts, refuses, verdict}
+use Rattle.steps.specs.Model.{Cell, cell, Trace, refused, last, field, line, change, putting, dropping, keptIn, holding, ending, anchor, seen, doing, run, Judged, declined, taken, any, agrees, judge, read, used, Verdict, accepts, refuses, verdict}
 use Rattle.steps.specs.Numbers.{formNumber}
-use Rattle.steps.proofs.Tallies.{Account, Work, fresh, widthOf, Ans, stop, gives, Total, closed, full, lost, dropsIn, withBlanks, whole, fieldOn, recordOn, fieldUp, recordUp, goes, same-whole, Some, some-judge, tallied, tallies}
+use Rattle.steps.proofs.Tallies.{Account, Work, fresh, widthFrom, Ans, stop, gives, Total, closed, contentWith, lost, dropsIn, withBlanks, whole, fieldOn, recordOn, fieldUp, recordUp, goes, same-whole, Some, some-judge, tallied, tallies}
 
--- a point inside a file: its form, whether bytes came since the last record's end, its mark, and the field in work
+-- a point inside a file: its form, whether bytes came since the last record's end, its anchor, and the field in work
 pub record Point : Type 0 where
   pub form : Form
   pub begun : Bool
-  pub mark : Bytes
+  pub anchor : Bytes
   pub work : Work
 
 abbrev pub inside : Form → Bytes → Work → Point
-inside k m w = record { form = k; begun = true; mark = m; work = w }
+inside k m w = record { form = k; begun = true; anchor = m; work = w }
 
 -- where a field begins, of the same record or of the next
 abbrev pub opening : Bool → Account → Point
-opening u a = record { form = start; begun = u; mark = []; work = fresh a }
+opening u a = record { form = start; begun = u; anchor = []; work = fresh a }
 
 -- the account before the first byte of the file f
 abbrev pub none : Bytes → Account
@@ -61,15 +61,15 @@ ended w = whole w (cell [] 0)
 
 -- what an act makes of a point, at the byte b before f
 abbrev pub acting : Dialect → Act → ℕ → Bytes → Point → Ans Point
-acting d (refuse n) b f p = stop n (seen (p .form) (b ∷ f) (p .mark))
-acting d (go j nothing) b f p = gives (inside j (mark (p .form) j (b ∷ f) (p .mark)) (p .work))
-acting d (go j put) b f p = gives (inside j (mark (p .form) j (b ∷ f) (p .mark)) (putOn (p .work)))
-acting d (go j hold) b f p = gives (inside j (mark (p .form) j (b ∷ f) (p .mark)) (holdOn (p .work)))
-acting d (go j drop) b f p = gives (inside j (mark (p .form) j (b ∷ f) (p .mark)) (dropOn (p .work)))
+acting d (refuse n) b f p = stop n (seen (p .form) (b ∷ f) (p .anchor))
+acting d (go j nothing) b f p = gives (inside j (anchor (p .form) j (b ∷ f) (p .anchor)) (p .work))
+acting d (go j put) b f p = gives (inside j (anchor (p .form) j (b ∷ f) (p .anchor)) (putOn (p .work)))
+acting d (go j hold) b f p = gives (inside j (anchor (p .form) j (b ∷ f) (p .anchor)) (holdOn (p .work)))
+acting d (go j drop) b f p = gives (inside j (anchor (p .form) j (b ∷ f) (p .anchor)) (dropOn (p .work)))
 acting d (go j field-end) b f p = let w = ended (p .work) in fieldUp w (gives (opening true (fieldOn f w)))
 acting d (go j record-end) b f p =
     let w = ended (p .work) in
-    recordUp d w (seen (p .form) (b ∷ f) (p .mark)) (gives (opening false (recordOn (not (behindCr (p .form))) f w)))
+    recordUp d w (seen (p .form) (b ∷ f) (p .anchor)) (gives (opening false (recordOn (not (behindCr (p .form))) f w)))
 
 -- what is ahead of a point: with no byte since the last record's end, nothing more is no record
 abbrev orFresh : Bool → Bytes → Account → Ans Total → Ans Total
@@ -78,7 +78,7 @@ orFresh false [] a k = closed a
 orFresh false (b ∷ f) a k = k
 
 unfoldable pub comes : Dialect → Bytes → Point → Ans Total
-comes d g p = orFresh (p .begun) g (p .work .account) (goes d (p .work) (run d g (p .form) (p .mark)))
+comes d g p = orFresh (p .begun) g (p .work .account) (goes d (p .work) (run d g (p .form) (p .anchor)))
 
 abbrev pub andThen : {A B : Type 0} → Ans A → (A → Ans B) → Ans B
 andThen (stop n p) k = stop n p
@@ -103,7 +103,7 @@ module _ (w : Work) (b : ℕ) where
       drops [] = refl
       drops (y ∷ c) = refl
 
-      content : (c : Content) → full (w .content + w .held + 1) 0 c ≡ full (w .content) (w .held) (b ∷ c)
+      content : (c : Content) → contentWith (w .content + w .held + 1) 0 c ≡ contentWith (w .content) (w .held) (b ∷ c)
       content [] = omega arith
       content (y ∷ c) = omega arith
 
@@ -115,7 +115,7 @@ module _ (w : Work) (b : ℕ) where
       drops n [] = rw (add-one (w .held), some-suc (w .held), some-suc n) (or-true (some n))
       drops n (y ∷ c) = refl
 
-      content : (n : ℕ) (c : Content) → full (w .content) (w .held + 1) c ≡ full (w .content) (w .held) ((keptIn b c n) .content)
+      content : (n : ℕ) (c : Content) → contentWith (w .content) (w .held + 1) c ≡ contentWith (w .content) (w .held) ((keptIn b c n) .content)
       content n [] = refl
       content n (y ∷ c) = omega arith
 
@@ -135,7 +135,7 @@ field-then w a k = cond-then (leb (w .content) contentLimit) a 9 (w .account .st
 
 pub record-then : {A B : Type 0} (d : Dialect) (w : Work) (p : Bytes) (a : Ans A) (k : A → Ans B) → recordUp d w p (andThen a k) ≡ andThen (recordUp d w p a) k
 record-then d w p a k =
-    let even = agrees d (widthOf (w .account .width)) (suc (w .account .number)) in
+    let even = agrees d (widthFrom (w .account .width)) (suc (w .account .number)) in
     ap (fieldUp w) (cond-then even a 10 p k) ∙ field-then w (cond even a (stop 10 p)) k
 
 alone : (x : Bool) → some (cond x 0 1) ≡ not x
@@ -144,7 +144,7 @@ alone false = refl
 
 module _ (d : Dialect) (b : ℕ) (f : Bytes) (p : Point) where
   abbrev to : Form → Bytes
-  to j = mark (p .form) j (b ∷ f) (p .mark)
+  to j = anchor (p .form) j (b ∷ f) (p .anchor)
 
   -- the end of a record, with what follows it
   record-ends :
@@ -159,7 +159,7 @@ module _ (d : Dialect) (b : ℕ) (f : Bytes) (p : Point) where
       go [] r = refl
       go (b ∷ f) r = refl
 
-  comes-act : (a : Act) → goes d (p .work) (doing a (p .form) b f (p .mark) (λ j q. run d f j q)) ≡ andThen (acting d a b f p) (comes d f)
+  comes-act : (a : Act) → goes d (p .work) (doing a (p .form) b f (p .anchor) (λ j q. run d f j q)) ≡ andThen (acting d a b f p) (comes d f)
   unfolding comes
   comes-act (refuse n) = refl
   comes-act (go j nothing) = refl
@@ -169,7 +169,7 @@ module _ (d : Dialect) (b : ℕ) (f : Bytes) (p : Point) where
   comes-act (go j field-end) = let w = ended (p .work) in field-then w (gives (opening true (fieldOn f w))) (comes d f)
   comes-act (go j record-end) =
       let w = ended (p .work) in
-      let a = seen (p .form) (b ∷ f) (p .mark) in
+      let a = seen (p .form) (b ∷ f) (p .anchor) in
       record-ends (cond (behindCr (p .form)) 0 1) a
       ∙ (ap (λ (l : Bool). recordUp d w a (comes d f (opening false (recordOn l f w)))) (alone (behindCr (p .form)))
       ∙ record-then d w a (gives (opening false (recordOn (not (behindCr (p .form))) f w))) (comes d f))
@@ -179,7 +179,7 @@ module _ (d : Dialect) (b : ℕ) (f : Bytes) (p : Point) where
   unfolding comes run
   comes-byte = go (p .begun) ∙ comes-act (stepOf (d .allows lf) (p .form) (classOf d b))
     where
-      go : (u : Bool) → orFresh u (b ∷ f) (p .work .account) (goes d (p .work) (run d (b ∷ f) (p .form) (p .mark))) ≡ goes d (p .work) (run d (b ∷ f) (p .form) (p .mark))
+      go : (u : Bool) → orFresh u (b ∷ f) (p .work .account) (goes d (p .work) (run d (b ∷ f) (p .form) (p .anchor))) ≡ goes d (p .work) (run d (b ∷ f) (p .form) (p .anchor))
       go true = refl
       go false = refl
 
@@ -187,7 +187,7 @@ module _ (d : Dialect) (b : ℕ) (f : Bytes) (p : Point) where
 abbrev pub lastly : Dialect → Form → Point → Ans Total
 lastly d k p =
     let w = ended (p .work) in
-    cond (eqb (formNumber k) 3) (stop 8 (p .mark)) (cond (behindCr k) (stop 6 (p .mark)) (recordUp d w [] (closed (recordOn false [] w))))
+    cond (eqb (formNumber k) 3) (stop 8 (p .anchor)) (cond (behindCr k) (stop 6 (p .anchor)) (recordUp d w [] (closed (recordOn false [] w))))
 
 pub comes-end : (d : Dialect) (p : Point) → comes d [] p ≡ cond (p .begun) (lastly d (p .form) p) (closed (p .work .account))
 unfolding comes run
@@ -195,7 +195,7 @@ comes-end d p = go (p .begun) (p .form)
   where
     go :
         (u : Bool) (k : Form)
-        → orFresh u [] (p .work .account) (goes d (p .work) (run d [] k (p .mark))) ≡ cond u (lastly d k p) (closed (p .work .account))
+        → orFresh u [] (p .work .account) (goes d (p .work) (run d [] k (p .anchor))) ≡ cond u (lastly d k p) (closed (p .work .account))
     go false = λ k. refl
     go true = elim [ start ↦ refl | lead ↦ refl | bare ↦ refl | quoted ↦ refl | shut ↦ refl | tail ↦ refl | cr ↦ refl ]
 
@@ -234,7 +234,7 @@ module _ (d : Dialect) where
       let r = run d (b ∷ f) start [] in
       ap (answer (b ∷ f) (some (wides d (b ∷ f)))) (tallies d (none (b ∷ f)) r) ∙ tallied-answer (b ∷ f) (judge d any 0 (b ∷ f) r) (some-judge d any 0 (b ∷ f) r)
 
--- the mark is kept, and else it is the byte's own place
+-- the anchor is kept, and else it is the byte's own place
 abbrev pub keeps : Form → Out → Bool
 keeps j nothing = eqb (formNumber j) 4
 keeps j put = true
@@ -243,7 +243,7 @@ keeps j drop = true
 keeps j field-end = true
 keeps j record-end = true
 
--- the acts that a step may be: a refusal has a number, and a form with a mark keeps it where the model's does
+-- the acts that a step may be: a refusal has a number, and a form with a anchor keeps it where the model's does
 abbrev pub Fits : Form → Act → Type 0
 Fits k (refuse n) = eqb n 0 ≡ false
 Fits k (go start o) = Unit {0}

@@ -7,7 +7,7 @@ use native.Mathlib.Omega.{arith}
 use lib.Dec.{eqb, leb}
 use borrow.Author.Tests.{ne-eqb, le-leb}
 use Rattle.format.specs.Dialect.{Class, text, blank, delimiter, quote, CR, LF, forbidden}
-use Rattle.format.proofs.Classes.{marks}
+use Rattle.format.proofs.Classes.{specialClass}
 use Rattle.steps.specs.Steps.{Form, start, lead, bare, quoted, shut, tail, cr, inQuotes, behindCr, isBlank}
 use Rattle.steps.specs.Numbers.{formNumber, classNumber, formOf, classFrom}
 
@@ -62,7 +62,7 @@ pub past : (n k : ℕ) → NoneBelow n k → k ≤ n
 past n zero h = omega arith
 past n (suc k) h = omega (arith, past n k (h .0), h .1)
 
--- the numbers of a forbidden byte and of marks
+-- the numbers of a forbidden byte and of specialClass
 pub forbidden-number : (x : Class) → classNumber x ≡ 6 → x ≡ forbidden
 forbidden-number text e = absurd (omega (arith, e))
 forbidden-number blank e = absurd (omega (arith, e))
@@ -72,11 +72,11 @@ forbidden-number CR e = absurd (omega (arith, e))
 forbidden-number LF e = absurd (omega (arith, e))
 forbidden-number forbidden e = refl
 
-pub mark-number : (x : Class) → marks x ≡ (leb 2 (classNumber x) && leb (classNumber x) 5)
-mark-number text = refl
-mark-number blank = refl
-mark-number delimiter = refl
-mark-number quote = refl
-mark-number CR = refl
-mark-number LF = refl
-mark-number forbidden = refl
+pub special-number : (x : Class) → specialClass x ≡ (leb 2 (classNumber x) && leb (classNumber x) 5)
+special-number text = refl
+special-number blank = refl
+special-number delimiter = refl
+special-number quote = refl
+special-number CR = refl
+special-number LF = refl
+special-number forbidden = refl

@@ -10,7 +10,7 @@ use Rattle.format.specs.Dialect.{lf, Dialect, Class, text, blank, delimiter, qu
 use Rattle.format.specs.Grammar.{padded, Blanks, Bare, Inside, opened, closed, Field, Break}
 use Rattle.format.specs.Refusal.{NoLf, FieldRefusal, refusal-3, refusal-3-inside, refusal-4, refusal-5, refusal-5-quote, refusal-6, refusal-7, refusal-8}
 use Rattle.format.specs.Count.{blankCount, dropped, alone}
-use Rattle.format.proofs.Classes.{droppable, text-unmarked, unpadded, quotedClass, inside-byte}
+use Rattle.format.proofs.Classes.{droppable, text-ordinary, unpadded, quotedClass, inside-byte}
 use Rattle.steps.specs.Steps.{Form, start, bare, quoted, shut, tail, cr, stepOf}
 use Rattle.steps.specs.Numbers.{classNumber}
 use Rattle.steps.specs.Model.{Cell, cell, Trace, refused, last, field, line, change, putting, dropping, holding, ending, doing, run}
@@ -30,7 +30,7 @@ pub data Goes (d : Dialect) : Form → Bytes → Cell → Bytes → Type 0 where
       → Goes d shut (a ∷ f) (cell (a ∷ c) n) h
   tail-done : {f g : Bytes} {n : ℕ} (y : Blanks d f g) → blankCount y ≡ n → Goes d tail f (cell [] n) g
 
--- from a form, a fault inside the rest of a field; p is the mark
+-- from a form, a fault inside the rest of a field; p is the anchor
 pub data Wrong (d : Dialect) : Form → Bytes → ℕ → Bytes → Bytes → Bytes → Type 0 where
   bare-4 : {b : ℕ} {f g p : Bytes} {c : Content} → Bare d f c (b ∷ g) → classOf d b ≡ quote → Wrong d bare p 4 f (b ∷ g) (b ∷ g)
   in-3 : {b : ℕ} {f g p : Bytes} {c : Content} → Inside d f c (b ∷ g) → classOf d b ≡ forbidden → Wrong d quoted p 3 f (b ∷ g) (b ∷ g)
@@ -122,7 +122,7 @@ module _ (d : Dialect) where
     text-right : (f : Bytes) → classOf d b ≡ text → Right d bare start b f (putting b)
     unfolding dropped blankCount
     text-right f e x g (in-bare {c} {n} k w y q) =
-        let t = text-unmarked d b e .1 in
+        let t = text-ordinary d b e .1 in
         from-start {n = n} (Field.bare Blanks.none (Bare.text-byte e k) (unpadded d b c t (ends-text b c t w)) y) (omega arith)
 
     text-worse : (f : Bytes) → classOf d b ≡ text → Worse d bare start b f [] []
@@ -137,7 +137,7 @@ module _ (d : Dialect) where
 
     -- in a bare field
     bare-text-right : (f : Bytes) → classOf d b ≡ text → Right d bare bare b f (putting b)
-    bare-text-right f e x g (in-bare {c} k w y q) = in-bare (Bare.text-byte e k) (ends-text b c (text-unmarked d b e .1) w) y q
+    bare-text-right f e x g (in-bare {c} k w y q) = in-bare (Bare.text-byte e k) (ends-text b c (text-ordinary d b e .1) w) y q
 
     bare-text-worse : (f : Bytes) → classOf d b ≡ text → Worse d bare bare b f [] []
     bare-text-worse f e n i j (bare-4 k q) = bare-4 (Bare.text-byte e k) q

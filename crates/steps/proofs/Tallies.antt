@@ -44,9 +44,9 @@ abbrev pub fresh : Account → Work
 fresh a = record { account = a; content = 0; held = 0 }
 
 -- the width of the first record, 0 before its end
-abbrev pub widthOf : ℕ → Width
-widthOf zero = any
-widthOf (suc n) = just (suc n)
+abbrev pub widthFrom : ℕ → Width
+widthFrom zero = any
+widthFrom (suc n) = just (suc n)
 
 -- a record of n fields is as wide as the first, or is the first
 abbrev pub even : ℕ → ℕ → Bool
@@ -66,9 +66,9 @@ abbrev pub closed : Account → Ans Total
 closed a = gives (record { sums = a .sums; flags = a .flags })
 
 -- a field of m bytes and h blanks held, whose rest is the cell x: how long its content is, whether it drops a blank
-abbrev pub full : ℕ → ℕ → Content → ℕ
-full m h [] = m
-full m h (y ∷ c) = m + (h + length (y ∷ c))
+abbrev pub contentWith : ℕ → ℕ → Content → ℕ
+contentWith m h [] = m
+contentWith m h (y ∷ c) = m + (h + length (y ∷ c))
 
 abbrev pub lost : ℕ → Content → Bool
 lost h [] = some h
@@ -97,7 +97,7 @@ abbrev pub whole : Work → Cell → Work
 whole w x =
     record {
       account = withBlanks (dropsIn (w .held) x || w .account .flags .blanks) (w .account);
-      content = full (w .content) (w .held) (x .content);
+      content = contentWith (w .content) (w .held) (x .content);
       held = 0;
     }
 
@@ -123,17 +123,17 @@ abbrev pub fieldUp : {A : Type 0} → Work → Ans A → Ans A
 fieldUp w k = cond (leb (w .content) contentLimit) k (stop 9 (w .account .start))
 
 abbrev pub recordUp : {A : Type 0} → Dialect → Work → Bytes → Ans A → Ans A
-recordUp d w p k = fieldUp w (cond (agrees d (widthOf (w .account .width)) (suc (w .account .number))) k (stop 10 p))
+recordUp d w p k = fieldUp w (cond (agrees d (widthFrom (w .account .width)) (suc (w .account .number))) k (stop 10 p))
 
 -- what holds of a refusal by them and of what follows
 pub field-up : {A : Type 0} (P : Ans A → Type 0) (w : Work) (k : Ans A) → P k → P (stop 9 (w .account .start)) → P (fieldUp w k)
 field-up P w k x y = decide P (leb (w .content) contentLimit) (λ e. x) (λ e. y)
 
 pub record-up : {A : Type 0} (P : Ans A → Type 0) (d : Dialect) (w : Work) (p : Bytes) (k : Ans A) → P k → P (stop 10 p) → P (stop 9 (w .account .start)) → P (recordUp d w p k)
-record-up P d w p k x y z = field-up P w _ (decide P (agrees d (widthOf (w .account .width)) (suc (w .account .number))) (λ e. x) (λ e. y)) z
+record-up P d w p k x y z = field-up P w _ (decide P (agrees d (widthFrom (w .account .width)) (suc (w .account .number))) (λ e. x) (λ e. y)) z
 
 -- a width agrees where it is even or need not be
-pub agrees-even : (d : Dialect) (z j : ℕ) → (d .allows ragged || even z (suc j)) ≡ agrees d (widthOf z) (suc j)
+pub agrees-even : (d : Dialect) (z j : ℕ) → (d .allows ragged || even z (suc j)) ≡ agrees d (widthFrom z) (suc j)
 unfolding agrees
 agrees-even d zero j = or-true (d .allows ragged)
 agrees-even d (suc z) j = rw (eqb·suc-zero z)
@@ -191,9 +191,9 @@ pub some-plus : (a b : ℕ) → some (a + b) ≡ (some a || some b)
 some-plus zero b = ap some (zero-add b)
 some-plus (suc a) b = rw (suc-add a b, eqb·suc-zero a, eqb·suc-zero (a + b))
 
-full-none : (c : Content) → full 0 0 c ≡ length c
-full-none [] = refl
-full-none (y ∷ c) = omega arith
+content-with-none : (c : Content) → contentWith 0 0 c ≡ length c
+content-with-none [] = refl
+content-with-none (y ∷ c) = omega arith
 
 drops-none : (x : Cell) → dropsIn 0 x ≡ some (x .drops)
 drops-none x = go (x .content)
@@ -202,7 +202,7 @@ drops-none x = go (x .content)
     go [] = or-false (some (x .drops))
     go (y ∷ c) = or-false (some (x .drops))
 
-settled-width : (z j : ℕ) → settled (widthOf z) (suc j) ≡ widthOf (cond (eqb z 0) (suc j) z)
+settled-width : (z j : ℕ) → settled (widthFrom z) (suc j) ≡ widthFrom (cond (eqb z 0) (suc j) z)
 settled-width zero j = refl
 settled-width (suc z) j = rw (eqb·suc-zero z)
 
@@ -248,7 +248,7 @@ pub same-whole :
 same-whole a p q = λ i. record { account = withBlanks (p i) a; content = q i; held = 0 }
 
 whole-fresh : (a : Account) (x : Cell) → whole (fresh a) x ≡ counted a x
-whole-fresh a x = same-whole a (ap (λ (b : Bool). b || a .flags .blanks) (drops-none x)) (full-none (x .content))
+whole-fresh a x = same-whole a (ap (λ (b : Bool). b || a .flags .blanks) (drops-none x)) (content-with-none (x .content))
 
 -- a field before a record
 tallied-beside : (a : Account) (g : Bytes) (x : Cell) (r : Judged) → Some r → tallied (fieldOn g (counted a x)) r ≡ tallied a (beside x r)
@@ -299,23 +299,23 @@ tallied-cond true n p q a k r e = e
 tallied-cond false n p q a k r e = refl
 
 -- what a trace comes to is what the model judges of it
-pub tallies : (d : Dialect) (a : Account) (r : Trace) → goes d (fresh a) r ≡ tallied a (judge d (widthOf (a .width)) (a .number) (a .start) r)
+pub tallies : (d : Dialect) (a : Account) (r : Trace) → goes d (fresh a) r ≡ tallied a (judge d (widthFrom (a .width)) (a .number) (a .start) r)
 unfolding fits
 tallies d a (refused n p q) = refl
 tallies d a (last x l p) =
     ap (λ (w : Work). recordUp d w p (closed (recordOn (some l) [] w))) (whole-fresh a x)
     ∙ tallied-cond (fits (x .content)) 9 (a .start) p a _ _
-    (tallied-cond (agrees d (widthOf (a .width)) (suc (a .number))) 10 p p a _ _ (tallied-last a x l))
+    (tallied-cond (agrees d (widthFrom (a .width)) (suc (a .number))) 10 p p a _ _ (tallied-last a x l))
 tallies d a (field x p g r) =
     let j = suc (a .number) in
     ap (λ (w : Work). fieldUp w (goes d (fresh (fieldOn g w)) r)) (whole-fresh a x)
     ∙ tallied-cond (fits (x .content)) 9 (a .start) p a _ _
-    (tallies d (fieldOn g (counted a x)) r ∙ tallied-beside a g x (judge d (widthOf (a .width)) j g r) (some-judge d (widthOf (a .width)) j g r))
+    (tallies d (fieldOn g (counted a x)) r ∙ tallied-beside a g x (judge d (widthFrom (a .width)) j g r) (some-judge d (widthFrom (a .width)) j g r))
 tallies d a (line x l p g r) =
     let next = recordOn (some l) g (counted a x) in
-    let w = settled (widthOf (a .width)) (suc (a .number)) in
+    let w = settled (widthFrom (a .width)) (suc (a .number)) in
     ap (λ (w : Work). recordUp d w p (goes d (fresh (recordOn (some l) g w)) r)) (whole-fresh a x)
     ∙ tallied-cond (fits (x .content)) 9 (a .start) p a _ _
-    (tallied-cond (agrees d (widthOf (a .width)) (suc (a .number))) 10 p p a _ _
+    (tallied-cond (agrees d (widthFrom (a .width)) (suc (a .number))) 10 p p a _ _
     (tallies d next r
     ∙ (ap (λ (v : Width). tallied next (judge d v 0 g r)) (sym (settled-width (a .width) (a .number))) ∙ tallied-above a x l g (judge d w 0 g r) (some-judge d w 0 g r))))

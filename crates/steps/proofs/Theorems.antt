@@ -7,7 +7,7 @@ use mathlib.Core.Logic.{_⊎_, inl, inr, _↔_}
 use Rattle.format.specs.declared.Place.{Place}
 use Rattle.format.specs.Table.{Bytes, Table}
 use Rattle.format.specs.Dialect.{Dialect, dialect, strict}
-use Rattle.format.specs.Written.{plain}
+use Rattle.format.specs.WrittenForms.{plain}
 use Rattle.format.specs.Refusal.{Refusal}
 use Rattle.format.specs.Reading.{Reading, Accepted, Refused}
 use Rattle.format.proofs.Demand3.{same-plain-same-table}

@@ -54,27 +54,27 @@ abbrev pub ending : ℕ → Bytes → Bytes → Trace → Trace
 ending l a [] r = last (cell [] 0) l a
 ending l a (b ∷ f) r = line (cell [] 0) l a (b ∷ f) r
 
--- The mark is the place of the opening quote inside quotes, and that of the CR behind one; elsewhere it is [].
-abbrev pub mark : Form → Form → Bytes → Bytes → Bytes
-mark k start here p = []
-mark k lead here p = []
-mark k bare here p = []
-mark k quoted here p = cond (inQuotes k) p here
-mark k shut here p = cond (inQuotes k) p here
-mark k tail here p = []
-mark k cr here p = here
+-- The anchor is the place of the opening quote inside quotes, and that of the CR behind one; elsewhere it is [].
+abbrev pub anchor : Form → Form → Bytes → Bytes → Bytes
+anchor k start here p = []
+anchor k lead here p = []
+anchor k bare here p = []
+anchor k quoted here p = cond (inQuotes k) p here
+anchor k shut here p = cond (inQuotes k) p here
+anchor k tail here p = []
+anchor k cr here p = here
 
 -- the place of a break or a fault that is seen here: behind a CR it is that of the CR
 abbrev pub seen : Form → Bytes → Bytes → Bytes
 seen k here p = cond (behindCr k) p here
 
--- what an act in the form k with the mark p does, at the byte b before f; r is what f gives
+-- what an act in the form k with the anchor p does, at the byte b before f; r is what f gives
 abbrev pub doing : Act → Form → ℕ → Bytes → Bytes → (Form → Bytes → Trace) → Trace
 doing (refuse n) k b f p r = refused n (seen k (b ∷ f) p) (seen k (b ∷ f) p)
-doing (go j nothing) k b f p r = r j (mark k j (b ∷ f) p)
-doing (go j put) k b f p r = change (putting b) (r j (mark k j (b ∷ f) p))
-doing (go j hold) k b f p r = change (holding b) (r j (mark k j (b ∷ f) p))
-doing (go j drop) k b f p r = change dropping (r j (mark k j (b ∷ f) p))
+doing (go j nothing) k b f p r = r j (anchor k j (b ∷ f) p)
+doing (go j put) k b f p r = change (putting b) (r j (anchor k j (b ∷ f) p))
+doing (go j hold) k b f p r = change (holding b) (r j (anchor k j (b ∷ f) p))
+doing (go j drop) k b f p r = change dropping (r j (anchor k j (b ∷ f) p))
 doing (go j field-end) k b f p r = field (cell [] 0) (b ∷ f) f (r start [])
 doing (go j record-end) k b f p r = ending (cond (behindCr k) 0 1) (seen k (b ∷ f) p) f (r start [])
 

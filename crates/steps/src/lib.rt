@@ -23,7 +23,7 @@ pub enum Stepped {
     EndRecord,
 }
 
-// The numbers of classes that others ask for. Those of the marks run from the delimiter's to the LF's.
+// The numbers of classes that others ask for. Those of the special bytes, which a bare field cannot hold, run from the delimiter's to the LF's.
 pub const DELIMITER: u8 = 2;
 
 pub const LF: u8 = 5;

@@ -5,7 +5,7 @@ use mathlib.Core.List.{List}
 use Rattle.format.specs.declared.Answer.{Answer, the-variants.Taken, the-variants.Declined}
 use Rattle.format.specs.Table.{Bytes}
 use Rattle.pieces.specs.Answers.{Answers}
-use Rattle.reader.specs.Read.{Outcome}
+use Rattle.reader.specs.Read.{ReadOutcome}
 
 abbrev pub recordsOf : Answer → ℕ
 recordsOf (Taken t) = t .records
@@ -18,5 +18,5 @@ pub record CheckTimed (f : Bytes) (n : ℕ) : Type 0 where
 
 pub record ReadTimed (f text : Bytes) (ends rows : List ℕ) (n : ℕ) (text′ : Bytes) (ends′ rows′ : List ℕ) : Type 0 where
   pub answer : Answer
-  pub outcome : Outcome 0x2C 0 f text ends rows answer text′ ends′ rows′
+  pub outcome : ReadOutcome 0x2C 0 f text ends rows answer text′ ends′ rows′
   pub counts : n ≡ recordsOf answer

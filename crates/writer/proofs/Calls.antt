@@ -13,7 +13,7 @@ use Rattle.format.specs.Table.{Bytes, Table, First}
 use Rattle.format.specs.Dialect.{strict}
 use Rattle.format.specs.House.{fileLimit}
 use Rattle.format.specs.Memory.{textOf, WellFormed, tableOf}
-use Rattle.format.specs.Written.{plain, full, Holds}
+use Rattle.format.specs.WrittenForms.{plain, full, CanHold}
 use Rattle.format.specs.Filling.{over}
 use Rattle.format.specs.Answer.{writerNumbers}
 use Rattle.format.specs.Reading.{Reading, Accepted}
@@ -26,7 +26,7 @@ use Rattle.format.proofs.Numbers.{one-write-numbers}
 use Rattle.pieces.specs.Answers.{totalsOf}
 use Rattle.reader.specs.Read as reader
 use Rattle.reader.proofs.Calls as reads
-use Rattle.writer.specs.Write.{fileIn, Forbidden, refused, accepted, FileOutcome, TableOutcome, Outcome}
+use Rattle.writer.specs.Write.{fileIn, Forbidden, refused, accepted, FileOutcome, TableOutcome, WriteOutcome}
 
 one-file :
     {file out x y : Bytes} {a b : List ℕ} → FileOutcome file out a x → FileOutcome file out b y → (a ≡ b) × (x ≡ y)
@@ -42,7 +42,7 @@ one-file (FileOutcome.whole h k) (FileOutcome.whole i j) = (refl, refl)
 
 -- what strict can hold has none of the faults
 module _ {text : Bytes} {t : Table} (same : textOf t ≡ text) where
-  none-forbidden : Holds strict t → {k : ℕ} → First Forbidden text k → ⊥
+  none-forbidden : CanHold strict t → {k : ℕ} → First Forbidden text k → ⊥
   none-forbidden h x = none-first (rw same at (holds-bytes strict h)) x
 
   one-table :
@@ -50,42 +50,42 @@ module _ {text : Bytes} {t : Table} (same : textOf t ≡ text) where
   one-table (TableOutcome.refusal-3 h) (TableOutcome.refusal-3 i) = (ap (refused 3) (one-first h i), refl)
   one-table (TableOutcome.refusal-3 h) (TableOutcome.refusal-9 n i) = absurd (none-first n h)
   one-table (TableOutcome.refusal-3 h) (TableOutcome.refusal-10 n m i) = absurd (none-first n h)
-  one-table (TableOutcome.refusal-3 h) (TableOutcome.held i o) = absurd (none-forbidden i h)
+  one-table (TableOutcome.refusal-3 h) (TableOutcome.holdable i o) = absurd (none-forbidden i h)
   one-table (TableOutcome.refusal-9 n h) (TableOutcome.refusal-3 i) = absurd (none-first n i)
   one-table (TableOutcome.refusal-9 n h) (TableOutcome.refusal-9 m i) = (ap (refused 9) (one-first h i), refl)
   one-table (TableOutcome.refusal-9 n h) (TableOutcome.refusal-10 l m i) = absurd (none-first m h)
-  one-table (TableOutcome.refusal-9 n h) (TableOutcome.held i o) = absurd (none-first (holds-contents strict i) h)
+  one-table (TableOutcome.refusal-9 n h) (TableOutcome.holdable i o) = absurd (none-first (holds-contents strict i) h)
   one-table (TableOutcome.refusal-10 n m h) (TableOutcome.refusal-3 i) = absurd (none-first n i)
   one-table (TableOutcome.refusal-10 n m h) (TableOutcome.refusal-9 l i) = absurd (none-first m i)
   one-table (TableOutcome.refusal-10 n m h) (TableOutcome.refusal-10 k l i) = (ap (refused 10) (one-first h i), refl)
-  one-table (TableOutcome.refusal-10 n m h) (TableOutcome.held i o) = absurd (none-first (holds-rows strict refl i) h)
-  one-table (TableOutcome.held h o) (TableOutcome.refusal-3 i) = absurd (none-forbidden h i)
-  one-table (TableOutcome.held h o) (TableOutcome.refusal-9 n i) = absurd (none-first (holds-contents strict h) i)
-  one-table (TableOutcome.held h o) (TableOutcome.refusal-10 n m i) = absurd (none-first (holds-rows strict refl h) i)
-  one-table (TableOutcome.held h o) (TableOutcome.held i p) = one-file o p
+  one-table (TableOutcome.refusal-10 n m h) (TableOutcome.holdable i o) = absurd (none-first (holds-rows strict refl i) h)
+  one-table (TableOutcome.holdable h o) (TableOutcome.refusal-3 i) = absurd (none-forbidden h i)
+  one-table (TableOutcome.holdable h o) (TableOutcome.refusal-9 n i) = absurd (none-first (holds-contents strict h) i)
+  one-table (TableOutcome.holdable h o) (TableOutcome.refusal-10 n m i) = absurd (none-first (holds-rows strict refl h) i)
+  one-table (TableOutcome.holdable h o) (TableOutcome.holdable i p) = one-file o p
 
 module _ {text : Bytes} {ends rows : List ℕ} {mode : ℕ} {out : Bytes} where
-  pub one-numbers : {a b : List ℕ} {x y : Bytes} → Outcome text ends rows mode out a x → Outcome text ends rows mode out b y → (a ≡ b) × (x ≡ y)
-  one-numbers (Outcome.refusal-1 h) (Outcome.refusal-1 i) = (refl, refl)
-  one-numbers (Outcome.refusal-1 h) (Outcome.refusal-14 i n) = absurd (omega arith)
-  one-numbers (Outcome.refusal-1 h) (Outcome.well-formed i w o) = absurd (omega arith)
-  one-numbers (Outcome.refusal-14 h n) (Outcome.refusal-1 i) = absurd (omega arith)
-  one-numbers (Outcome.refusal-14 h n) (Outcome.refusal-14 i m) = (refl, refl)
-  one-numbers (Outcome.refusal-14 h n) (Outcome.well-formed i w o) = absurd (n w)
-  one-numbers (Outcome.well-formed h v o) (Outcome.refusal-1 i) = absurd (omega arith)
-  one-numbers (Outcome.well-formed h v o) (Outcome.refusal-14 i n) = absurd (n v)
-  one-numbers (Outcome.well-formed h v o) (Outcome.well-formed i w p) = one-table (memory-back v .0) o p
+  pub one-numbers : {a b : List ℕ} {x y : Bytes} → WriteOutcome text ends rows mode out a x → WriteOutcome text ends rows mode out b y → (a ≡ b) × (x ≡ y)
+  one-numbers (WriteOutcome.refusal-1 h) (WriteOutcome.refusal-1 i) = (refl, refl)
+  one-numbers (WriteOutcome.refusal-1 h) (WriteOutcome.refusal-14 i n) = absurd (omega arith)
+  one-numbers (WriteOutcome.refusal-1 h) (WriteOutcome.well-formed i w o) = absurd (omega arith)
+  one-numbers (WriteOutcome.refusal-14 h n) (WriteOutcome.refusal-1 i) = absurd (omega arith)
+  one-numbers (WriteOutcome.refusal-14 h n) (WriteOutcome.refusal-14 i m) = (refl, refl)
+  one-numbers (WriteOutcome.refusal-14 h n) (WriteOutcome.well-formed i w o) = absurd (n w)
+  one-numbers (WriteOutcome.well-formed h v o) (WriteOutcome.refusal-1 i) = absurd (omega arith)
+  one-numbers (WriteOutcome.well-formed h v o) (WriteOutcome.refusal-14 i n) = absurd (n v)
+  one-numbers (WriteOutcome.well-formed h v o) (WriteOutcome.well-formed i w p) = one-table (memory-back v .0) o p
 
   -- any two outcomes that the promise allows are equal, the buffer included
   pub one-outcome :
       {a b : Written} {x y : Bytes}
-      → Outcome text ends rows mode out (writerNumbers a) x → Outcome text ends rows mode out (writerNumbers b) y → (a ≡ b) × (x ≡ y)
+      → WriteOutcome text ends rows mode out (writerNumbers a) x → WriteOutcome text ends rows mode out (writerNumbers b) y → (a ≡ b) × (x ≡ y)
   one-outcome {a} {b} o p = let (e, q) = one-numbers o p in (one-write-numbers a b e, q)
 
 -- what an accepted write says
 pub record Wrote (text : Bytes) (ends rows : List ℕ) (mode : ℕ) (out : Bytes) (n : ℕ) (out′ : Bytes) : Type 0 where
   pub formed : WellFormed text ends rows
-  pub holds : Holds strict (tableOf text ends rows)
+  pub holds : CanHold strict (tableOf text ends rows)
   pub size : n ≡ length (fileIn mode (tableOf text ends rows))
   pub short : n ≤ fileLimit
   pub out-is : out′ ≡ over (fileIn mode (tableOf text ends rows)) out
@@ -96,26 +96,26 @@ module _ {A : Type 0} {n m index : ℕ} where
   not-accepted h e = let z : n ≡ 0 = ap (λ (l : List ℕ). getD l 0 0) e in absurd (omega arith)
 
 module _ {text : Bytes} {ends rows : List ℕ} {mode : ℕ} {out : Bytes} {n : ℕ} where
-  wrote : {a : List ℕ} {out′ : Bytes} → Outcome text ends rows mode out a out′ → a ≡ accepted n → Wrote text ends rows mode out n out′
-  wrote (Outcome.refusal-1 h) e = not-accepted (omega arith) e
-  wrote (Outcome.refusal-14 h m) e = not-accepted (omega arith) e
-  wrote (Outcome.well-formed h w (TableOutcome.refusal-3 x)) e = not-accepted (omega arith) e
-  wrote (Outcome.well-formed h w (TableOutcome.refusal-9 m x)) e = not-accepted (omega arith) e
-  wrote (Outcome.well-formed h w (TableOutcome.refusal-10 m l x)) e = not-accepted (omega arith) e
-  wrote (Outcome.well-formed h w (TableOutcome.held i (FileOutcome.refusal-2 k))) e = not-accepted (omega arith) e
-  wrote (Outcome.well-formed h w (TableOutcome.held i (FileOutcome.refusal-15 k l))) e = not-accepted (omega arith) e
-  wrote (Outcome.well-formed h w (TableOutcome.held i (FileOutcome.whole k l))) e =
+  wrote : {a : List ℕ} {out′ : Bytes} → WriteOutcome text ends rows mode out a out′ → a ≡ accepted n → Wrote text ends rows mode out n out′
+  wrote (WriteOutcome.refusal-1 h) e = not-accepted (omega arith) e
+  wrote (WriteOutcome.refusal-14 h m) e = not-accepted (omega arith) e
+  wrote (WriteOutcome.well-formed h w (TableOutcome.refusal-3 x)) e = not-accepted (omega arith) e
+  wrote (WriteOutcome.well-formed h w (TableOutcome.refusal-9 m x)) e = not-accepted (omega arith) e
+  wrote (WriteOutcome.well-formed h w (TableOutcome.refusal-10 m l x)) e = not-accepted (omega arith) e
+  wrote (WriteOutcome.well-formed h w (TableOutcome.holdable i (FileOutcome.refusal-2 k))) e = not-accepted (omega arith) e
+  wrote (WriteOutcome.well-formed h w (TableOutcome.holdable i (FileOutcome.refusal-15 k l))) e = not-accepted (omega arith) e
+  wrote (WriteOutcome.well-formed h w (TableOutcome.holdable i (FileOutcome.whole k l))) e =
       let z : length (fileIn mode (tableOf text ends rows)) ≡ n = ap (λ (l : List ℕ). getD l 4 0) e in
       record { formed = w; holds = i; size = sym z; short = rw z at k; out-is = refl }
 
-file-reads : (mode : ℕ) (t : Table) → Holds strict t → Reading strict (fileIn mode t) t 0
+file-reads : (mode : ℕ) (t : Table) → CanHold strict t → Reading strict (fileIn mode t) t 0
 file-reads mode t h = go (eqb mode 0)
   where
     go : (x : Bool) → Reading strict (cond x (plain strict t) (full strict t)) t 0
     go true = let p = plain-reads strict tt t h in rw (strict-report p) at p
     go false = let p = full-reads strict tt t h in rw (strict-report p) at p
 
-module _ {text : Bytes} {ends rows : List ℕ} {mode n : ℕ} {out out′ : Bytes} (o : Outcome text ends rows mode out (writerNumbers (Whole n)) out′) where
+module _ {text : Bytes} {ends rows : List ℕ} {mode n : ℕ} {out out′ : Bytes} (o : WriteOutcome text ends rows mode out (writerNumbers (Whole n)) out′) where
   -- whatever the writer accepts reads back, strict, as the same table with nothing reported
   pub reads-back : Accepted 0x2C 0 (take n out′) (tableOf text ends rows) 0
   reads-back =
@@ -131,7 +131,7 @@ module _ {text : Bytes} {ends rows : List ℕ} {mode n : ℕ} {out out′ : Byte
   -- and the reader, given room for them, gives back the three slices that were written
   pub reads-back-call :
       {text′ : Bytes} {ends′ rows′ : List ℕ} {a : Answer} {x : Bytes} {y z : List ℕ}
-      → reader.Outcome 0x2C 0 (take n out′) text′ ends′ rows′ a x y z
+      → reader.ReadOutcome 0x2C 0 (take n out′) text′ ends′ rows′ a x y z
       → length text ≤ length text′ → length ends ≤ length ends′ → length rows ≤ length rows′
       → (a ≡ Taken (totalsOf (tableOf text ends rows) 0)) × (x ≡ over text text′) × (y ≡ over ends ends′) × (z ≡ over rows rows′)
   reads-back-call {text′} {ends′} {rows′} p h i j =
@@ -139,5 +139,5 @@ module _ {text : Bytes} {ends rows : List ℕ} {mode n : ℕ} {out out′ : Byte
       let m = memory-back (w .formed) in
       let room : reader.Room (tableOf text ends rows) text′ ends′ rows′ =
       record { for-text = rw (m .0) h; for-ends = rw (fields-length (w .formed)) i; for-rows = rw table-length j } in
-      let e = reads.one-outcome p (reader.Outcome.filled reads-back room) in
+      let e = reads.one-outcome p (reader.ReadOutcome.filled reads-back room) in
       (e .0, rw (m .0) at (e .1), rw (m .1) at (e .2), rw (m .2) at (e .3))

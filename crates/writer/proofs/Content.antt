@@ -7,7 +7,7 @@ use mathlib.Core.List.{[], _∷_}
 use lib.ListN.{length, getD}
 use lib.Seq.{slice, slice-cons, slice-empty, length-slice}
 use Rattle.format.specs.Table.{Bytes}
-use Rattle.format.specs.Written.{doubled}
+use Rattle.format.specs.WrittenForms.{doubled}
 use Rattle.format.proofs.Lines.{doubled-quote, doubled-other, doubled-none, doubled-least, doubled-length}
 
 module _ (text : Bytes) (i end : ℕ) where

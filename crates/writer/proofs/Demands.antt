@@ -11,13 +11,13 @@ use Rattle.format.specs.Table.{Bytes, Table}
 use Rattle.format.specs.Dialect.{strict}
 use Rattle.format.specs.House.{EndsInBreak, fileLimit}
 use Rattle.format.specs.Memory.{WellFormed, tableOf}
-use Rattle.format.specs.Written.{plain, Holds}
+use Rattle.format.specs.WrittenForms.{plain, CanHold}
 use Rattle.format.specs.Filling.{over}
 use Rattle.format.specs.Answer.{writerNumbers}
 use Rattle.format.specs.Reading.{Reading}
 use Rattle.format.proofs.Demand3.{ShortestEnded, StrictTally, plain-is-shortest-ended, strict-tally, one-strict-tally, strict-ended, strict-length}
 use Rattle.steps.proofs.Theorems.{same-plain}
-use Rattle.writer.specs.Write.{fileIn, accepted, FileOutcome, TableOutcome, Outcome}
+use Rattle.writer.specs.Write.{fileIn, accepted, FileOutcome, TableOutcome, WriteOutcome}
 use Rattle.writer.proofs.Calls.{one-outcome}
 
 pub record Demand3 (t : Table) : Type 0 where
@@ -28,7 +28,7 @@ pub record Demand3 (t : Table) : Type 0 where
   pub the-writer-gives-it :
       {text : Bytes} {ends rows : List ℕ} {out out′ : Bytes} {a : Written}
       → WellFormed text ends rows → tableOf text ends rows ≡ t → length shortest ≤ fileLimit → length shortest ≤ length out
-      → Outcome text ends rows 0 out (writerNumbers a) out′ → (a ≡ Whole (length shortest)) × (out′ ≡ over shortest out)
+      → WriteOutcome text ends rows 0 out (writerNumbers a) out′ → (a ≡ Whole (length shortest)) × (out′ ≡ over shortest out)
   -- any strict file of that table has that length, plus two for each field quoted without need, minus two if its last line break is missing:
   -- n fields of f are quoted without need, and m is 1 if its last line break is missing and else 0; each file has one such tally
   pub any-file : {f : Bytes} {r : ℕ} → Reading strict f t r → (n : ℕ) × (m : ℕ) × StrictTally f t n m
@@ -39,19 +39,19 @@ pub record Demand3 (t : Table) : Type 0 where
   pub same-plain-form :
       {f g : Bytes} {u : Table} {r s : ℕ} → Reading strict f t r → Reading strict g u s → (plain strict t ≡ plain strict u) ↔ (t ≡ u)
 
--- the outcome of a plain write of a table that is held, within the limit and with room
+-- the outcome of a plain write of a table that strict can hold, within the limit and with room
 plain-outcome :
-    (t : Table) → Holds strict t → {text : Bytes} {ends rows : List ℕ} {out : Bytes} → WellFormed text ends rows → tableOf text ends rows ≡ t
+    (t : Table) → CanHold strict t → {text : Bytes} {ends rows : List ℕ} {out : Bytes} → WellFormed text ends rows → tableOf text ends rows ≡ t
     → length (plain strict t) ≤ fileLimit → length (plain strict t) ≤ length out
-    → Outcome text ends rows 0 out (accepted (length (plain strict t))) (over (plain strict t) out)
+    → WriteOutcome text ends rows 0 out (accepted (length (plain strict t))) (over (plain strict t) out)
 plain-outcome t h {text} {ends} {rows} {out} w e l k =
-    Outcome.well-formed (omega arith) w
+    WriteOutcome.well-formed (omega arith) w
     (subst
     (λ (u : Table). TableOutcome text u (fileIn 0 u) out (accepted (length (plain strict t))) (over (plain strict t) out))
     (sym e)
-    (TableOutcome.held h (FileOutcome.whole l k)))
+    (TableOutcome.holdable h (FileOutcome.whole l k)))
 
-pub demand-3 : (t : Table) → 1 ≤ length t → Holds strict t → Demand3 t
+pub demand-3 : (t : Table) → 1 ≤ length t → CanHold strict t → Demand3 t
 demand-3 t n h =
     record {
       shortest = plain strict t;

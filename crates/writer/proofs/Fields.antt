@@ -8,11 +8,12 @@ use lib.ListN.{length, set, length-append, length-set}
 use lib.Seq.{sets, length-sets}
 use Rattle.format.specs.Table.{Bytes, Content}
 use Rattle.format.specs.Dialect.{strict}
-use Rattle.format.specs.Written.{needsQuotes, doubled, quotedForm, plainForm}
+use Rattle.format.specs.WrittenForms.{needsQuotes, doubled, quotedForm, plainForm}
 use Rattle.format.proofs.Filling.{meant, push, pushes}
 use Rattle.format.proofs.Forms.{either-false}
-use Rattle.format.proofs.Length.{unmarked-doubled}
-use Rattle.format.proofs.Lines.{strict-needs, quoted-content, plain-content, doubled-length}
+use Rattle.format.proofs.Length.{ordinary-doubled}
+use Rattle.format.proofs.Rfc.{strict-needs}
+use Rattle.format.proofs.Lines.{quoted-content, plain-content, doubled-length}
 use Rattle.writer.specs.Form.{quotes, formIn}
 
 module _ (full : Bool) (c : Content) {q : Bool} (e : q ≡ quotes full c) where
@@ -24,7 +25,7 @@ module _ (full : Bool) (c : Content) {q : Bool} (e : q ≡ quotes full c) where
   unfolding formIn quotes
   form-bare h =
       let x : quotes full c ≡ false = sym e ∙ h in
-      rw x (sym (unmarked-doubled strict c (sym (strict-needs c) ∙ either-false full (needsQuotes strict c) x .1)))
+      rw x (sym (ordinary-doubled strict c (sym (strict-needs c) ∙ either-false full (needsQuotes strict c) x .1)))
 
   pub size-quoted : q ≡ true → length (formIn full c) ≡ length (doubled c) + 2
   size-quoted h = rw (form-quoted h, length-append) (omega arith)

@@ -13,13 +13,13 @@ use Rattle.format.specs.Dialect.{strict}
 use Rattle.format.specs.Filling.{over}
 use Rattle.format.specs.House.{contentLimit, fileLimit, widthOf}
 use Rattle.format.specs.Memory.{WellFormed, gaps, tableOf}
-use Rattle.format.specs.Written.{tableBy, Holds}
+use Rattle.format.specs.WrittenForms.{tableBy, CanHold}
 use Rattle.format.proofs.First.{first-inside}
 use Rattle.format.proofs.Holding.{holds}
 use Rattle.format.proofs.Memory.{table-length, memory-back, memory-fields, fields-length, field-lengths, record-lengths, width-at}
 use Rattle.writer.specs.Form.{formIn}
 use Rattle.writer.specs.Seek.{Sought, Outside}
-use Rattle.writer.specs.Write.{fileIn, Forbidden, TooLong, Differs, refused, accepted, FileOutcome, TableOutcome, Outcome}
+use Rattle.writer.specs.Write.{fileIn, Forbidden, TooLong, Differs, refused, accepted, FileOutcome, TableOutcome, WriteOutcome}
 use Rattle.writer.proofs.Fields.{plain-form, full-form}
 use Rattle.writer.proofs.Seeking.{sought-same, sought-lengths}
 
@@ -54,8 +54,8 @@ other-width w cs = (there, back)
         go false e = inr (leb-false (length cs) w e)
 
 module _ {text : Bytes} {ends rows : List ℕ} (w : WellFormed text ends rows) where
-  pub by-3 : {mode k : ℕ} {out : Bytes} → mode ≤ 1 → Sought Forbidden text k → k < length text → Outcome text ends rows mode out (refused 3 k) out
-  by-3 m s h = Outcome.well-formed m w (TableOutcome.refusal-3 (is-first s h))
+  pub by-3 : {mode k : ℕ} {out : Bytes} → mode ≤ 1 → Sought Forbidden text k → k < length text → WriteOutcome text ends rows mode out (refused 3 k) out
+  by-3 m s h = WriteOutcome.well-formed m w (TableOutcome.refusal-3 (is-first s h))
 
   contents : {k : ℕ} → Sought (Outside 0 contentLimit) (gaps 0 ends) k → Sought TooLong (flatten (tableOf text ends rows)) k
   contents {k} s =
@@ -72,8 +72,8 @@ module _ {text : Bytes} {ends rows : List ℕ} (w : WellFormed text ends rows) w
   module _ {b : ℕ} (bytes : Sought Forbidden text b) (b-none : length text ≤ b) where
     pub by-9 :
         {mode k : ℕ} {out : Bytes} → mode ≤ 1 → Sought (Outside 0 contentLimit) (gaps 0 ends) k → k < length ends
-        → Outcome text ends rows mode out (refused 9 k) out
-    by-9 m s h = Outcome.well-formed m w (TableOutcome.refusal-9 (is-none bytes b-none) (is-first (contents s) (rw (fields-length w) h)))
+        → WriteOutcome text ends rows mode out (refused 9 k) out
+    by-9 m s h = WriteOutcome.well-formed m w (TableOutcome.refusal-9 (is-none bytes b-none) (is-first (contents s) (rw (fields-length w) h)))
 
     module _ {f : ℕ} (fields : Sought (Outside 0 contentLimit) (gaps 0 ends) f) (f-none : length ends ≤ f) where
       no-long : None TooLong (flatten (tableOf text ends rows))
@@ -81,12 +81,12 @@ module _ {text : Bytes} {ends rows : List ℕ} (w : WellFormed text ends rows) w
 
       pub by-10 :
           {mode k : ℕ} {out : Bytes} → mode ≤ 1 → Sought (Outside (getD rows 0 0) (getD rows 0 0)) (gaps 0 rows) k → k < length rows
-          → Outcome text ends rows mode out (refused 10 k) out
-      by-10 m s h = Outcome.well-formed m w (TableOutcome.refusal-10 (is-none bytes b-none) no-long (is-first (records s) (rw table-length h)))
+          → WriteOutcome text ends rows mode out (refused 10 k) out
+      by-10 m s h = WriteOutcome.well-formed m w (TableOutcome.refusal-10 (is-none bytes b-none) no-long (is-first (records s) (rw table-length h)))
 
-      pub held :
-          {k : ℕ} → Sought (Outside (getD rows 0 0) (getD rows 0 0)) (gaps 0 rows) k → length rows ≤ k → Holds strict (tableOf text ends rows)
-      held s h =
+      pub holdable :
+          {k : ℕ} → Sought (Outside (getD rows 0 0) (getD rows 0 0)) (gaps 0 rows) k → length rows ≤ k → CanHold strict (tableOf text ends rows)
+      holdable s h =
           holds strict (tableOf text ends rows) (memory-fields w) (rw (memory-back w .0) (is-none bytes b-none)) no-long
           (is-none (records s) (rw table-length h))
 
@@ -98,19 +98,19 @@ file-by (suc (suc n)) h t = absurd (omega arith)
 
 -- a table that strict can hold, with the length of its file
 module _ {text : Bytes} {ends rows : List ℕ} {mode n : ℕ} (m : mode ≤ 1) (w : WellFormed text ends rows)
-    (h : Holds strict (tableOf text ends rows)) (e : n ≡ length (tableBy (formIn (eqb mode 1)) strict (tableOf text ends rows))) where
+    (h : CanHold strict (tableOf text ends rows)) (e : n ≡ length (tableBy (formIn (eqb mode 1)) strict (tableOf text ends rows))) where
   size-is : n ≡ length (fileIn mode (tableOf text ends rows))
   size-is = e ∙ ap length (file-by mode m (tableOf text ends rows))
 
-  pub by-2 : {out : Bytes} → fileLimit < n → Outcome text ends rows mode out (refused 2 0) out
-  by-2 l = Outcome.well-formed m w (TableOutcome.held h (FileOutcome.refusal-2 (rw (← size-is) l)))
+  pub by-2 : {out : Bytes} → fileLimit < n → WriteOutcome text ends rows mode out (refused 2 0) out
+  by-2 l = WriteOutcome.well-formed m w (TableOutcome.holdable h (FileOutcome.refusal-2 (rw (← size-is) l)))
 
-  pub by-15 : {out : Bytes} → n ≤ fileLimit → length out < n → Outcome text ends rows mode out (refused 15 0) out
-  by-15 l k = Outcome.well-formed m w (TableOutcome.held h (FileOutcome.refusal-15 (rw (← size-is) l) (rw (← size-is) k)))
+  pub by-15 : {out : Bytes} → n ≤ fileLimit → length out < n → WriteOutcome text ends rows mode out (refused 15 0) out
+  by-15 l k = WriteOutcome.well-formed m w (TableOutcome.holdable h (FileOutcome.refusal-15 (rw (← size-is) l) (rw (← size-is) k)))
 
   pub by-whole :
       {out out′ : Bytes} → n ≤ fileLimit → n ≤ length out → out′ ≡ over (tableBy (formIn (eqb mode 1)) strict (tableOf text ends rows)) out
-      → Outcome text ends rows mode out (accepted n) out′
+      → WriteOutcome text ends rows mode out (accepted n) out′
   by-whole l k q =
       rw (q, file-by mode m (tableOf text ends rows), size-is)
-      (Outcome.well-formed m w (TableOutcome.held h (FileOutcome.whole (rw (← size-is) l) (rw (← size-is) k))))
+      (WriteOutcome.well-formed m w (TableOutcome.holdable h (FileOutcome.whole (rw (← size-is) l) (rw (← size-is) k))))

@@ -13,7 +13,7 @@ use native.Mathlib.Decide.{ℕ-discrete}
 use Rattle.format.specs.Table.{Bytes, lastOf}
 use Rattle.format.specs.Dialect.{strict}
 use Rattle.format.specs.Memory.{Ordered, WellFormed, parts, tableOf, startOf}
-use Rattle.format.specs.Written.{tableBy}
+use Rattle.format.specs.WrittenForms.{tableBy}
 use Rattle.format.specs.Filling.{over, Filling}
 use Rattle.format.proofs.Filling.{begin, move, push, pushes, room-for}
 use Rattle.format.proofs.Lines.{line-ends, line-goes-on, lines-end}

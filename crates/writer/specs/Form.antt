@@ -2,7 +2,7 @@
 use mathlib.Core.Bool.{Bool, cond, _||_}
 use Rattle.format.specs.Table.{Bytes, Content}
 use Rattle.format.specs.Dialect.{strict}
-use Rattle.format.specs.Written.{needsQuotes, quotedForm}
+use Rattle.format.specs.WrittenForms.{needsQuotes, quotedForm}
 
 -- full quotes every field, plain one that needs it
 unfoldable pub quotes : Bool → Content → Bool

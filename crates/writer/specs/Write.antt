@@ -9,7 +9,7 @@ use Rattle.format.specs.Table.{Bytes, Content, Table, None, First}
 use Rattle.format.specs.Dialect.{strict, forbidden, classOf}
 use Rattle.format.specs.House.{contentLimit, fileLimit, widthOf}
 use Rattle.format.specs.Memory.{WellFormed, tableOf}
-use Rattle.format.specs.Written.{plain, full, Holds}
+use Rattle.format.specs.WrittenForms.{plain, full, CanHold}
 use Rattle.format.specs.Filling.{over}
 
 -- the file of a table in a mode: 0 is plain, 1 is full
@@ -47,13 +47,13 @@ pub data TableOutcome (text : Bytes) (t : Table) (file out : Bytes) : List ℕ �
   refusal-3 : {k : ℕ} → First Forbidden text k → TableOutcome text t file out (refused 3 k) out
   refusal-9 : {k : ℕ} → None Forbidden text → First TooLong (flatten t) k → TableOutcome text t file out (refused 9 k) out
   refusal-10 : {k : ℕ} → None Forbidden text → None TooLong (flatten t) → First (Differs t) t k → TableOutcome text t file out (refused 10 k) out
-  held : {a : List ℕ} {out′ : Bytes} → Holds strict t → FileOutcome file out a out′ → TableOutcome text t file out a out′
+  holdable : {a : List ℕ} {out′ : Bytes} → CanHold strict t → FileOutcome file out a out′ → TableOutcome text t file out a out′
 
 -- three slices and a mode: 1, else 14
-pub data Outcome (text : Bytes) (ends rows : List ℕ) (mode : ℕ) (out : Bytes) : List ℕ → Bytes → Type 0 where
-  refusal-1 : 1 < mode → Outcome text ends rows mode out (refused 1 0) out
-  refusal-14 : mode ≤ 1 → (WellFormed text ends rows → ⊥) → Outcome text ends rows mode out (refused 14 0) out
+pub data WriteOutcome (text : Bytes) (ends rows : List ℕ) (mode : ℕ) (out : Bytes) : List ℕ → Bytes → Type 0 where
+  refusal-1 : 1 < mode → WriteOutcome text ends rows mode out (refused 1 0) out
+  refusal-14 : mode ≤ 1 → (WellFormed text ends rows → ⊥) → WriteOutcome text ends rows mode out (refused 14 0) out
   well-formed : {a : List ℕ} {out′ : Bytes}
       → mode ≤ 1 → WellFormed text ends rows
       → TableOutcome text (tableOf text ends rows) (fileIn mode (tableOf text ends rows)) out a out′
-      → Outcome text ends rows mode out a out′
+      → WriteOutcome text ends rows mode out a out′

@@ -9,11 +9,11 @@ ghost use lib.Seq.{slice, sets};
 ghost use Rattle.format.specs.Dialect.{strict};
 ghost use Rattle.format.specs.Answer.{writerNumbers};
 ghost use Rattle.format.specs.Memory.{Ordered, WellFormed, gaps, tableOf};
-ghost use Rattle.format.specs.Written.{isMark, doubled, tableBy, Holds};
+ghost use Rattle.format.specs.WrittenForms.{isSpecial, doubled, tableBy, CanHold};
 ghost use Rattle.format.specs.Filling.{over};
 ghost use Rattle.writer.specs.Form.{quotes, formIn};
 ghost use Rattle.writer.specs.Seek.{Sought, Outside};
-ghost use Rattle.writer.specs.Write.{Forbidden, Outcome};
+ghost use Rattle.writer.specs.Write.{Forbidden, WriteOutcome};
 use format::ByteOffset;
 use format::FieldNumber;
 use format::Written;
@@ -21,7 +21,7 @@ use format::Written;
 // Writes a table as a strict file, plain in mode 0 and full in mode 1: the file from the front of out,
 // what stands behind it left alone; or the refusal, and nothing written.
 pub fn write(text: &[u8], ends: &[u32], rows: &[u32], mode: u8, out: &mut [u8]) -> Written
-    ensures { λ r. ⌜ Outcome (now (text .entry)) (now (ends .entry)) (now (rows .entry)) mode (now (out .entry)) (writerNumbers r) (now (out .exit)) ⌝ }
+    ensures { λ r. ⌜ WriteOutcome (now (text .entry)) (now (ends .entry)) (now (rows .entry)) mode (now (out .entry)) (writerNumbers r) (now (out .exit)) ⌝ }
 {
     if 1 < mode {
         return Written::UnknownMode;
@@ -41,13 +41,13 @@ pub fn write(text: &[u8], ends: &[u32], rows: &[u32], mode: u8, out: &mut [u8]) 
     if uneven < rows.len() {
         return Written::Uneven(uneven as u32);
     }
-    write_held(text, ends, rows, mode, out)
+    write_holdable(text, ends, rows, mode, out)
 }
 
 // Writes a table that strict can hold, if it is within the limit and there is room.
-fn write_held(text: &[u8], ends: &[u32], rows: &[u32], mode: u8, out: &mut [u8]) -> Written
-    requires { ⌜ (mode ≤ 1) × WellFormed (now text) (now ends) (now rows) × Holds strict (tableOf (now text) (now ends) (now rows)) ⌝ }
-    ensures { λ r. ⌜ Outcome (now (text .entry)) (now (ends .entry)) (now (rows .entry)) mode (now (out .entry)) (writerNumbers r) (now (out .exit)) ⌝ }
+fn write_holdable(text: &[u8], ends: &[u32], rows: &[u32], mode: u8, out: &mut [u8]) -> Written
+    requires { ⌜ (mode ≤ 1) × WellFormed (now text) (now ends) (now rows) × CanHold strict (tableOf (now text) (now ends) (now rows)) ⌝ }
+    ensures { λ r. ⌜ WriteOutcome (now (text .entry)) (now (ends .entry)) (now (rows .entry)) mode (now (out .entry)) (writerNumbers r) (now (out .exit)) ⌝ }
 {
     let full = mode == 1;
     let n = size(text, ends, rows, full);
@@ -175,7 +175,7 @@ fn is_quoted(text: &[u8], from: usize, end: usize, full: bool) -> bool
     }
     let mut i = from;
     while i < end {
-        if is_mark(text[i]) {
+        if is_special(text[i]) {
             return true;
         }
         i += 1;
@@ -183,9 +183,9 @@ fn is_quoted(text: &[u8], from: usize, end: usize, full: bool) -> bool
     false
 }
 
-// Whether a byte is a mark: a comma, a quote, CR or LF.
-fn is_mark(b: u8) -> bool
-    ensures { λ r. ⌜ r ≡ isMark strict b ⌝ }
+// Whether a byte is special: a comma, a quote, CR or LF.
+fn is_special(b: u8) -> bool
+    ensures { λ r. ⌜ r ≡ isSpecial strict b ⌝ }
 {
     let class = steps::class_of(b',', 0, b);
     steps::DELIMITER <= class && class <= steps::LF

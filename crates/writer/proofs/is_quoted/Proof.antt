@@ -7,24 +7,25 @@ use lib.ListN.{length, getD}
 use lib.Seq.{slice}
 use Rattle.format.specs.Table.{Bytes}
 use Rattle.format.specs.Dialect.{strict}
-use Rattle.format.specs.Written.{isMark, holdsMark}
-use Rattle.format.proofs.Lines.{strict-needs, marked-holds, unmarked-holds, nothing-holds}
+use Rattle.format.specs.WrittenForms.{isSpecial, holdsSpecial}
+use Rattle.format.proofs.Rfc.{strict-needs}
+use Rattle.format.proofs.Lines.{special-holds, ordinary-holds, nothing-holds}
 use Rattle.writer.specs.Form.{quotes}
 use Rattle.writer.proofs.Content.{byte-at, at-end}
 use borrow.Author.Needs.{needs}
 use Rattle.writer.proofs.is_quoted.Statement.{statement}
 use Rattle.writer.proofs.is_quoted.Tie as tie
 
--- the answer is whether a mark is still to come
+-- the answer is whether a special byte is still to come
 abbrev Ahead : Bytes → ℕ → Bool → ℕ → Type 0
-Ahead text end answer i = answer ≡ holdsMark strict (slice i end text)
+Ahead text end answer i = answer ≡ holdsSpecial strict (slice i end text)
 
 module _ (text : Bytes) (end i : ℕ) (answer : Bool) (k : end ≤ length text) (a : Ahead text end answer i) where
-  by-mark : i < end → {r : Bool} → r ≡ isMark strict (getD text i 0) → r ≡ true → true ≡ answer
-  by-mark h e q = sym (a ∙ rw (byte-at text i end h k) (marked-holds strict (getD text i 0) (slice (i + 1) end text) (sym e ∙ q)))
+  by-special : i < end → {r : Bool} → r ≡ isSpecial strict (getD text i 0) → r ≡ true → true ≡ answer
+  by-special h e q = sym (a ∙ rw (byte-at text i end h k) (special-holds strict (getD text i 0) (slice (i + 1) end text) (sym e ∙ q)))
 
-  by-other : i < end → {r : Bool} → r ≡ isMark strict (getD text i 0) → r ≡ false → Ahead text end answer (i + 1)
-  by-other h e q = a ∙ rw (byte-at text i end h k) (unmarked-holds strict (getD text i 0) (slice (i + 1) end text) (sym e ∙ q))
+  by-other : i < end → {r : Bool} → r ≡ isSpecial strict (getD text i 0) → r ≡ false → Ahead text end answer (i + 1)
+  by-other h e q = a ∙ rw (byte-at text i end h k) (ordinary-holds strict (getD text i 0) (slice (i + 1) end text) (sym e ∙ q))
 
   by-none : i ≤ end → end ≤ i → false ≡ answer
   by-none h j = sym (a ∙ rw (at-end text i end h j) (nothing-holds strict))
@@ -43,17 +44,17 @@ loop-holds : tie.Need-loop-holds Inv-loop μ-loop
 unfolding quotes
 loop-holds c = (c .before .before .pre .0, rw (c .if1 .left) (strict-needs _))
 
-shared-slice-read-is-mark : tie.Need-shared-slice-read-is-mark Inv-loop μ-loop
-shared-slice-read-is-mark c = omega (arith, c .before .before .before .before .before .pre .1)
+shared-slice-read-is-special : tie.Need-shared-slice-read-is-special Inv-loop μ-loop
+shared-slice-read-is-special c = omega (arith, c .before .before .before .before .before .pre .1)
 
-is-mark-requires : tie.Need-is-mark-requires Inv-loop μ-loop
-is-mark-requires c κs = search needs
+is-special-requires : tie.Need-is-special-requires Inv-loop μ-loop
+is-special-requires c κs = search needs
 
 returns-2 : tie.Need-returns-2 Inv-loop μ-loop
 returns-2 c =
     let t = c .before .before .before in
     let l = t .before in
-    by-mark _ _ _ _ (l .before .before .before .pre .1) (l .loop .inv .1) (t .loop-test .taken) (c .before .is-mark .ensures) (c .if2 .taken)
+    by-special _ _ _ _ (l .before .before .before .pre .1) (l .loop .inv .1) (t .loop-test .taken) (c .before .is-special .ensures) (c .if2 .taken)
 
 add-i : tie.Need-add-i Inv-loop μ-loop
 add-i c = search needs
@@ -66,7 +67,7 @@ loop-again c =
     let t = c .before .before .before in
     let l = t .before in (
       omega arith,
-      by-other _ _ _ _ (l .before .before .before .pre .1) (l .loop .inv .1) (t .loop-test .taken) (c .before .is-mark .ensures) (c .if2 .left),
+      by-other _ _ _ _ (l .before .before .before .pre .1) (l .loop .inv .1) (t .loop-test .taken) (c .before .is-special .ensures) (c .if2 .left),
     )
 
 returns-3 : tie.Need-returns-3 Inv-loop μ-loop
@@ -82,8 +83,8 @@ is-quoted-spec =
     μ-loop
     returns
     loop-holds
-    shared-slice-read-is-mark
-    is-mark-requires
+    shared-slice-read-is-special
+    is-special-requires
     returns-2
     add-i
     loop-less

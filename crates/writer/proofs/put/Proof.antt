@@ -5,7 +5,7 @@ use mathlib.Core.Path.{_≡_}
 use lib.ListN.{length, length-set}
 use Rattle.format.specs.Dialect.{strict}
 use Rattle.format.specs.Memory.{tableOf}
-use Rattle.format.specs.Written.{tableBy}
+use Rattle.format.specs.WrittenForms.{tableBy}
 use Rattle.format.specs.Filling.{over}
 use Rattle.format.proofs.Filling.{same-size}
 use Rattle.writer.specs.Form.{formIn}

@@ -6,7 +6,7 @@ use lib.ListN.{length, length-set}
 use lib.Seq.{length-sets, slice}
 use borrow.Author.Tests.{not-true, not-false}
 use Rattle.format.specs.Table.{Content}
-use Rattle.format.specs.Written.{doubled}
+use Rattle.format.specs.WrittenForms.{doubled}
 use Rattle.writer.specs.Form.{formIn}
 use Rattle.writer.proofs.Fields.{form-bare, size-bare, size-quoted, put-quoted, last-quote}
 use borrow.Author.Needs.{needs}

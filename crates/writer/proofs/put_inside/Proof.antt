@@ -6,7 +6,7 @@ use mathlib.Core.List.{_∷_}
 use lib.ListN.{length, getD, set, length-set}
 use lib.Seq.{slice, sets}
 use Rattle.format.specs.Table.{Bytes}
-use Rattle.format.specs.Written.{doubled}
+use Rattle.format.specs.WrittenForms.{doubled}
 use Rattle.format.specs.Filling.{Filling}
 use Rattle.format.proofs.Filling.{meant, move, same-size, push}
 use Rattle.writer.proofs.Content.{quote-next, other-next, none-next, some-next}

@@ -5,7 +5,7 @@ use mathlib.Core.Path.{_≡_, ap}
 use lib.ListN.{length, getD}
 use lib.Seq.{slice}
 use Rattle.format.specs.Table.{Bytes}
-use Rattle.format.specs.Written.{doubled}
+use Rattle.format.specs.WrittenForms.{doubled}
 use Rattle.writer.proofs.Content.{quote-next, other-next, none-next, some-next, doubled-bound}
 use borrow.Author.Needs.{needs}
 use Rattle.writer.proofs.size_inside.Statement.{statement}

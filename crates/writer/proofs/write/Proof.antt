@@ -6,8 +6,8 @@ use denote.Ref.{now}
 use borrow.Author.Tests.{not-true, not-false}
 use Rattle.format.specs.Memory.{WellFormed}
 use Rattle.format.proofs.Memory.{bytes-most, fields-most, records-most, rising-never-falls}
-use Rattle.writer.specs.Write.{Outcome}
-use Rattle.writer.proofs.Outcomes.{by-3, by-9, by-10, held}
+use Rattle.writer.specs.Write.{WriteOutcome}
+use Rattle.writer.proofs.Outcomes.{by-3, by-9, by-10, holdable}
 use borrow.Author.Needs.{needs}
 use Rattle.writer.proofs.write.Statement.{statement}
 use Rattle.writer.proofs.write.Tie as tie
@@ -39,7 +39,7 @@ few-records e =
     records-most (formed e) 4294967295 (λ i. omega (arith, k .shared-slice-known3 .given i))
 
 returns : tie.Need-returns
-returns c = Outcome.refusal-1 (c .if1 .taken)
+returns c = WriteOutcome.refusal-1 (c .if1 .taken)
 
 is-well-formed-requires : tie.Need-is-well-formed-requires
 is-well-formed-requires c κs = search needs
@@ -47,7 +47,7 @@ is-well-formed-requires c κs = search needs
 returns-2 : tie.Need-returns-2
 returns-2 c =
     let f = c .before in
-    Outcome.refusal-14 (omega (arith, f .before .if1 .left)) (f .is-well-formed .ensures .if-false (not-true (f .is-well-formed .result) (c .if2 .taken)))
+    WriteOutcome.refusal-14 (omega (arith, f .before .if1 .left)) (f .is-well-formed .ensures .if-false (not-true (f .is-well-formed .result) (c .if2 .taken)))
 
 first-forbidden-requires : tie.Need-first-forbidden-requires
 first-forbidden-requires c κs = search needs
@@ -91,15 +91,15 @@ returns-5 c =
     by-10 (formed e) (b .before .first-forbidden .ensures) (b .if3 .left) (f .before .first-outside .ensures) (f .if4 .left) (known e)
     (c .before .first-uneven .ensures) (c .if5 .taken)
 
-write-held-requires : tie.Need-write-held-requires
-write-held-requires c κs =
+write-holdable-requires : tie.Need-write-holdable-requires
+write-holdable-requires c κs =
     let r = c .before in
     let f = r .before .before in
     let b = f .before .before in
     let e = b .before .before in (
       known e,
       formed e,
-      held (formed e) (b .before .first-forbidden .ensures) (b .if3 .left) (f .before .first-outside .ensures) (f .if4 .left)
+      holdable (formed e) (b .before .first-forbidden .ensures) (b .if3 .left) (f .before .first-outside .ensures) (f .if4 .left)
           (r .before .first-uneven .ensures) (r .if5 .left),
     )
 
@@ -126,6 +126,6 @@ write-spec =
     first-uneven-requires
     cast-t16
     returns-5
-    write-held-requires
+    write-holdable-requires
     same-length
     returns-6)

@@ -1,9 +1,9 @@
--- `writer::write_held` meets its contract.
+-- `writer::write_holdable` meets its contract.
 use native.Mathlib.Omega.{arith}
 use Rattle.writer.proofs.Outcomes.{by-2, by-15, by-whole}
 use borrow.Author.Needs.{needs}
-use Rattle.writer.proofs.write_held.Statement.{statement}
-use Rattle.writer.proofs.write_held.Tie as tie
+use Rattle.writer.proofs.write_holdable.Statement.{statement}
+use Rattle.writer.proofs.write_holdable.Tie as tie
 
 size-requires : tie.Need-size-requires
 size-requires c κs = search needs
@@ -40,7 +40,7 @@ returns-3 c =
     let p = s .before .before .before .before .before .pre in
     by-whole (p .0) (p .1) (p .2) (s .size .ensures) (omega (arith, o .before .if1 .left)) (omega (arith, o .if2 .left)) (w .put .ensures)
 
-pub write-held-spec : {M : Type 1} → statement M
-write-held-spec =
+pub write-holdable-spec : {M : Type 1} → statement M
+write-holdable-spec =
     tie.close
     (tie.spec size-requires cast-if1 returns returns-2 put-requires cast-t14 same-length returns-3)

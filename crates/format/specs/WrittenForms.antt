@@ -11,16 +11,16 @@ use Rattle.format.specs.Grammar.{padded}
 use Rattle.format.specs.House.{Allowed}
 
 -- the delimiter, a quote, CR and LF
-abbrev pub isMark : Dialect → ℕ → Bool
-isMark d b = eqb b (d .delimiterByte) || (eqb b 0x22 || (eqb b 0x0D || eqb b 0x0A))
+abbrev pub isSpecial : Dialect → ℕ → Bool
+isSpecial d b = eqb b (d .delimiterByte) || (eqb b 0x22 || (eqb b 0x0D || eqb b 0x0A))
 
-unfoldable pub holdsMark : Dialect → Content → Bool
-holdsMark d [] = false
-holdsMark d (b ∷ c) = isMark d b || holdsMark d c
+unfoldable pub holdsSpecial : Dialect → Content → Bool
+holdsSpecial d [] = false
+holdsSpecial d (b ∷ c) = isSpecial d b || holdsSpecial d c
 
--- a field needs quotes: its content holds a mark, or has a blank at either end that would be dropped
+-- a field needs quotes: its content holds a special byte, or has a blank at either end that would be dropped
 unfoldable pub needsQuotes : Dialect → Content → Bool
-needsQuotes d c = holdsMark d c || padded d c
+needsQuotes d c = holdsSpecial d c || padded d c
 
 -- each quote doubled
 unfoldable pub doubled : Content → Bytes
@@ -53,7 +53,7 @@ abbrev pub full : Dialect → Table → Bytes
 full d t = tableBy quotedForm d t
 
 -- a table that the dialect can hold
-pub record Holds (d : Dialect) (t : Table) : Type 0 where
+pub record CanHold (d : Dialect) (t : Table) : Type 0 where
   pub some-field : Every (λ cs. 1 ≤ length cs) t
   pub none-forbidden : Every (Every (Every (λ b. classOf d b ≡ forbidden → ⊥))) t
   pub rules : Allowed d t
