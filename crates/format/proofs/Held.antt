@@ -30,7 +30,7 @@ module _ {d : Dialect} where
   field-held (Field.bare x k n y) = bare-held k
   field-held (Field.quoted x (closed (opened j k) l) y) = inside-held k
 
-  record-held : {f g : Bytes} {cs : List Content} → Record d f cs g → (1 ≤ length cs) × Every (Held d) cs
+  pub record-held : {f g : Bytes} {cs : List Content} → Record d f cs g → (1 ≤ length cs) × Every (Held d) cs
   record-held (Record.one p) = (omega arith, (field-held p, tt))
   record-held (Record.more p k r) = (omega arith, (field-held p, record-held r .1))
 

@@ -18,3 +18,4 @@ pub mod Places
 pub mod Rfc
 pub mod Tally
 pub mod Trim
+pub mod Room
