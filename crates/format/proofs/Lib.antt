@@ -19,3 +19,5 @@ pub mod Rfc
 pub mod Tally
 pub mod Trim
 pub mod Room
+pub mod Refusals
+pub mod Refused
