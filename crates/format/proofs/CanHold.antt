@@ -30,7 +30,7 @@ module _ {d : Dialect} where
   field-clean (Field.bare x k n y) = bare-clean k
   field-clean (Field.quoted x (closed (opened j k) l) y) = inside-clean k
 
-  record-clean : {f g : Bytes} {cs : List Content} → Record d f cs g → (1 ≤ length cs) × Every (Clean d) cs
+  pub record-clean : {f g : Bytes} {cs : List Content} → Record d f cs g → (1 ≤ length cs) × Every (Clean d) cs
   record-clean (Record.one p) = (omega arith, (field-clean p, tt))
   record-clean (Record.more p k r) = (omega arith, (field-clean p, record-clean r .1))
 

@@ -18,3 +18,6 @@ pub mod Places
 pub mod Rfc
 pub mod Tally
 pub mod Trim
+pub mod Room
+pub mod Refusals
+pub mod Refused

@@ -1,15 +1,31 @@
--- The paper's numbers for each case of an answer, in the paper's order.
+-- The rules' numbers for each answer, in the rules' order.
 use Prim.Native.Nat.{ℕ}
-use mathlib.Core.List.{List, [], _∷_}
-use Rattle.format.specs.declared.Answer.{Answer, the-variants.Taken, the-variants.Declined}
+use mathlib.Core.List.{List, [], _∷_, flatten}
+use lib.ListN.{length}
+use Rattle.format.specs.declared.Place.{Place}
+use Rattle.format.specs.declared.Totals.{Totals}
+use Rattle.format.specs.declared.Answer.{Answer}
 use Rattle.format.specs.declared.Written.{Written, the-variants.Whole, the-variants.UnknownMode, the-variants.Malformed, the-variants.Forbidden, the-variants.LongContent, the-variants.Uneven, the-variants.LongFile, the-variants.NoRoom}
 use Rattle.format.specs.declared.Found.{Found, the-variants.At, the-variants.Malformed as Unfit, the-variants.Twice, the-variants.Missing}
 use Rattle.format.specs.declared.Part.{Part, the-variants.Lies, the-variants.Absent}
+use Rattle.format.specs.Table.{Table}
+use Rattle.format.specs.Memory.{textOf}
+use Rattle.format.specs.Place.{place}
 
--- refusal, line, column, byte, records, fields, text length, report
-abbrev pub readerNumbers : Answer → List ℕ
-readerNumbers (Taken s) = 0 ∷ 0 ∷ 0 ∷ 0 ∷ s .records ∷ s .fields .0 ∷ s .text ∷ s .report ∷ []
-readerNumbers (Declined n p) = n ∷ p .line .0 ∷ p .column .0 ∷ p .byte .0 ∷ 0 ∷ 0 ∷ 0 ∷ 0 ∷ []
+-- what a table comes to, with its report
+abbrev pub totalsOf : Table → ℕ → Totals
+totalsOf t r = record { records = length t; fields = record { 0 = length (flatten t) }; text = length (textOf t); report = r }
+
+-- The answer to a file has: refusal, line, column, byte, records, fields, text length, report. Accepted, the first four are 0.
+abbrev pub acceptedWith : Totals → Answer
+acceptedWith s = record { refusal = 0; place = place 0 0 0; totals = s }
+
+abbrev pub acceptedAs : Table → ℕ → Answer
+acceptedAs t r = acceptedWith (totalsOf t r)
+
+-- on any refusal the last four are 0
+abbrev pub refusedBy : ℕ → Place → Answer
+refusedBy n p = record { refusal = n; place = p; totals = record { records = 0; fields = record { 0 = 0 }; text = 0; report = 0 } }
 
 -- refusal, line, column, byte, written length; byte is the index of the text byte, the field or the record
 abbrev pub writerNumbers : Written → List ℕ
@@ -18,7 +34,7 @@ writerNumbers UnknownMode = 1 ∷ 0 ∷ 0 ∷ 0 ∷ 0 ∷ []
 writerNumbers Malformed = 14 ∷ 0 ∷ 0 ∷ 0 ∷ 0 ∷ []
 writerNumbers (Forbidden b) = 3 ∷ 0 ∷ 0 ∷ b .0 ∷ 0 ∷ []
 writerNumbers (LongContent k) = 9 ∷ 0 ∷ 0 ∷ k .0 ∷ 0 ∷ []
-writerNumbers (Uneven r) = 10 ∷ 0 ∷ 0 ∷ r ∷ 0 ∷ []
+writerNumbers (Uneven r) = 10 ∷ 0 ∷ 0 ∷ r .0 ∷ 0 ∷ []
 writerNumbers LongFile = 2 ∷ 0 ∷ 0 ∷ 0 ∷ 0 ∷ []
 writerNumbers NoRoom = 15 ∷ 0 ∷ 0 ∷ 0 ∷ 0 ∷ []
 

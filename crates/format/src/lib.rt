@@ -1,14 +1,15 @@
 // The limits and the shared types, all by value: places, and the answers of the calls.
 //
-// specs/Answer.antt gives the paper's number and values for each case of an answer.
+// specs/Answer.antt gives the rules' number and values for each answer.
 
 // The house limits, in bytes: a field's content, and a file.
 pub const CONTENT_LIMIT: u32 = 4096;
 
 pub const FILE_LIMIT: u32 = 16777216;
 
-// Four kinds of number that cannot be mixed. Lines and columns count from 1, bytes and fields
-// from 0. A table's column is a field number and never a Column.
+// Kinds of number that cannot be mixed. The rules name four: line, column, byte offset and field
+// number. Lines and columns count from 1, all others from 0. A table's column is a field number and
+// never a Column; a byte offset is a place in a file, and an index into a table's text is no such place.
 #[repr(C)]
 pub struct Line(pub u32);
 
@@ -22,24 +23,35 @@ pub struct ByteOffset(pub u32);
 pub struct FieldNumber(pub u32);
 
 #[repr(C)]
+pub struct RecordNumber(pub u32);
+
+#[repr(C)]
+pub struct TextIndex(pub u32);
+
+#[repr(C)]
 pub struct Place {
     pub line: Line,
     pub column: Column,
     pub byte: ByteOffset,
 }
 
-// What an accepted file holds. The fields are counted by the number that one more would have.
+// What an accepted file holds, and the leniencies that it used. The fields are counted by the number
+// that one more would have.
+#[repr(C)]
 pub struct Totals {
     pub records: u32,
     pub fields: FieldNumber,
     pub text: u32,
-    pub report: u8,
+    pub report: u32,
 }
 
-// The reader's answer and the check's: accepted, or the refusal's number and the place it names.
-pub enum Answer {
-    Taken(Totals),
-    Declined(u8, Place),
+// The reader's answer and the check's: refusal 0 and the totals; or the refusal's number and the place
+// that it names. The rest of either is 0.
+#[repr(C)]
+pub struct Answer {
+    pub refusal: u32,
+    pub place: Place,
+    pub totals: Totals,
 }
 
 // The writer's answer: the written length, or why nothing was written.
@@ -47,9 +59,9 @@ pub enum Written {
     Whole(u32),
     UnknownMode,
     Malformed,
-    Forbidden(ByteOffset),
+    Forbidden(TextIndex),
     LongContent(FieldNumber),
-    Uneven(u32),
+    Uneven(RecordNumber),
     LongFile,
     NoRoom,
 }
@@ -64,6 +76,6 @@ pub enum Found {
 
 // Where a field lies in text: its start and its length; or there is no such field.
 pub enum Part {
-    Lies(ByteOffset, u32),
+    Lies(TextIndex, u32),
     Absent,
 }

@@ -6,7 +6,8 @@ use mathlib.Core.Bool.{Bool, true, false, cond, not, _||_}
 use mathlib.Core.List.{[], _∷_, _++_}
 use lib.Dec.{eqb, leb}
 use Rattle.format.specs.declared.Place.{Place}
-use Rattle.format.specs.declared.Answer.{Answer, the-variants.Declined}
+use Rattle.format.specs.declared.Answer.{Answer}
+use Rattle.format.specs.Answer.{acceptedAs, refusedBy}
 use Rattle.format.specs.Table.{Bytes}
 use Rattle.format.specs.Dialect.{lf, names, Dialect, classOf}
 use Rattle.format.specs.Count.{wides, some}
@@ -37,11 +38,11 @@ Ahead z g =
 
 -- a state with a refusal answers it
 module _ (c : Check) (n : ℕ) (p : Place) (e : eqb n 0 ≡ false) (h : Refuses n p c) where
-  settled-refuses : settledAnswer c ≡ Declined n p
+  settled-refuses : settledAnswer c ≡ refusedBy n p
   unfolding settledAnswer
   settled-refuses = rw (h .refusal, h .anchor, e)
 
-  inner-refuses : inner c ≡ Declined n p
+  inner-refuses : inner c ≡ refusedBy n p
   unfolding inner settledAnswer
   inner-refuses = rw (h .refusal, h .anchor, e)
 
@@ -83,7 +84,7 @@ module _ {z : Source} {s : Bytes} {r : Running} (at : At z s [] r) where
       by :
           (u : Bool) (k : Form) → Anchored (z .file) k (p .anchor) (r .anchor)
           → cond (not (eqb (num u) 0))
-          (cond (eqb (formNumber k) 3) (Declined 8 (r .anchor)) (cond (leb 6 (formNumber k)) (Declined 6 (r .anchor)) cutRecord))
+          (cond (eqb (formNumber k) 3) (refusedBy 8 (r .anchor)) (cond (leb 6 (formNumber k)) (refusedBy 6 (r .anchor)) cutRecord))
           (settledAnswer (going z [] r))
           ≡ answer (z .file) (r .wide) (cond u (lastly (dialectOf z) k p) (closed (p .work .account)))
       by false = λ k i. settled-going z [] r
@@ -92,10 +93,10 @@ module _ {z : Source} {s : Bytes} {r : Running} (at : At z s [] r) where
             | start ↦ λ i. settled-end
             | lead ↦ λ i. settled-end
             | bare ↦ λ i. settled-end
-            | quoted ↦ ap (Declined 8)
+            | quoted ↦ ap (refusedBy 8)
             | shut ↦ λ i. settled-end
             | tail ↦ λ i. settled-end
-            | cr ↦ ap (Declined 6)
+            | cr ↦ ap (refusedBy 6)
           ]
 
 -- one byte more

@@ -7,7 +7,8 @@ use mathlib.Core.List.{[], _++_, append-assoc, append-nil}
 use lib.Dec.{eqb, leb}
 use lib.ListN.{length}
 use borrow.Author.Tests.{eq-eqb, leb-true, leb-false, le-leb, lt-leb}
-use Rattle.format.specs.declared.Answer.{Answer, the-variants.Taken, the-variants.Declined}
+use Rattle.format.specs.declared.Answer.{Answer}
+use Rattle.format.specs.Answer.{acceptedAs, refusedBy}
 use Rattle.format.specs.Table.{Bytes}
 use Rattle.format.specs.Dialect.{dialect}
 use Rattle.format.specs.House.{fileLimit}
@@ -20,7 +21,7 @@ use Rattle.state.specs.declared.Check.{Check}
 use Rattle.places.specs.Counters.{counterLimit}
 use Rattle.state.specs.Check.{started, fedAll}
 use Rattle.pieces.specs.Asked.{settledAnswer, cut, asked}
-use Rattle.pieces.specs.Answers.{totalsOf, Answers, accepted, refused, Stands, Started, Fed, Asked}
+use Rattle.pieces.specs.Answers.{Answers, accepted, refused, Stands, Started, Fed, Asked}
 use Rattle.steps.proofs.Forward.{comes, answer, answerOf, comes-answer}
 use Rattle.state.proofs.Jumps.{fed-join}
 use Rattle.state.proofs.Moves.{fed-none, fed-all-keeps, start-bytes, started-byte}
@@ -34,7 +35,7 @@ holds-answers b sum f (refuses n p) h = refused h
 
 asked-inner :
     (c : Check) (x y : Bool) → isValid (c .delimiter) (c .leniencies) ≡ x → leb (c .here .byte .0) fileLimit ≡ y
-    → asked c ≡ cond x (cond y (inner c) (Declined 2 (place 0 0 0))) (Declined 1 (place 0 0 0))
+    → asked c ≡ cond x (cond y (inner c) (refusedBy 2 (place 0 0 0))) (refusedBy 1 (place 0 0 0))
 unfolding asked inner
 asked-inner c x y p q = rw (p, q)
 
@@ -70,7 +71,7 @@ module _ (b sum : ℕ) where
     where
       by :
           (x y : Bool) → isValid b sum ≡ x → leb (length f) fileLimit ≡ y
-          → cond x (cond y (inner (fedAll (started b sum) f)) (Declined 2 (place 0 0 0))) (Declined 1 (place 0 0 0)) ≡ answerOf (model b sum f)
+          → cond x (cond y (inner (fedAll (started b sum) f)) (refusedBy 2 (place 0 0 0))) (refusedBy 1 (place 0 0 0)) ≡ answerOf (model b sum f)
       by true true v e = let h = leb-true (length f) fileLimit e in rw (model-within b sum f v h) (inner-is f h)
       by true false v e = rw (model-long b sum f v (leb-false (length f) fileLimit e))
       by false y v e = rw (model-invalid b sum f v)
@@ -87,10 +88,10 @@ stands-answers b sum f c h = rw (append-nil f, fed-none c) at (h [])
 
 -- any two answers for a file coincide, and so do any two outcomes that a promise allows
 pub one-answer : {b sum : ℕ} {f : Bytes} {x y : Answer} → Answers b sum f x → Answers b sum f y → x ≡ y
-one-answer (accepted h) (accepted i) = let e = one-accepted h i in λ j. Taken (totalsOf (e .0 j) (e .1 j))
+one-answer (accepted h) (accepted i) = let e = one-accepted h i in λ j. acceptedAs (e .0 j) (e .1 j)
 one-answer (accepted h) (refused i) = absurd (never-both h i)
 one-answer (refused h) (accepted i) = absurd (never-both i h)
-one-answer (refused h) (refused i) = let e = one-refused h i in λ j. Declined (e .0 j) (e .1 j)
+one-answer (refused h) (refused i) = let e = one-refused h i in λ j. refusedBy (e .0 j) (e .1 j)
 
 pub start-one : (b sum : ℕ) (c e : Check) → Started b sum c → Started b sum e → c ≡ e
 start-one b sum c e p q = p .result ∙ sym (q .result)

@@ -1,26 +1,20 @@
 -- What a check's answers mean.
 use Prim.Native.Nat.{ℕ}
 use mathlib.Core.Path.{_≡_}
-use mathlib.Core.List.{[], _++_, flatten}
-use lib.ListN.{length}
+use mathlib.Core.List.{[], _++_}
 use Rattle.format.specs.declared.Place.{Place}
-use Rattle.format.specs.declared.Totals.{Totals}
-use Rattle.format.specs.declared.Answer.{Answer, the-variants.Taken, the-variants.Declined}
+use Rattle.format.specs.declared.Answer.{Answer}
+use Rattle.format.specs.Answer.{acceptedAs, refusedBy}
 use Rattle.format.specs.Table.{Bytes, Table}
-use Rattle.format.specs.Memory.{textOf}
 use Rattle.format.specs.Reading.{Accepted, Refused}
 use Rattle.state.specs.declared.Check.{Check}
 use Rattle.state.specs.Check.{started, fedAll}
 use Rattle.pieces.specs.Asked.{asked}
 
--- what a table comes to, with its report
-abbrev pub totalsOf : Table → ℕ → Totals
-totalsOf t r = record { records = length t; fields = record { 0 = length (flatten t) }; text = length (textOf t); report = r }
-
 -- the answer for the file f, over any two dialect bytes
 pub data Answers (b sum : ℕ) (f : Bytes) : Answer → Type 0 where
-  accepted : {t : Table} {r : ℕ} → Accepted b sum f t r → Answers b sum f (Taken (totalsOf t r))
-  refused : {n : ℕ} {p : Place} → Refused b sum f n p → Answers b sum f (Declined n p)
+  accepted : {t : Table} {r : ℕ} → Accepted b sum f t r → Answers b sum f (acceptedAs t r)
+  refused : {n : ℕ} {p : Place} → Refused b sum f n p → Answers b sum f (refusedBy n p)
 
 -- A state stands for a dialect and the bytes f: whatever comes next, asking then gives the answer for all of it as one whole file.
 abbrev pub Stands : ℕ → ℕ → Bytes → Check → Type 0

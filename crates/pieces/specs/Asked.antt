@@ -3,7 +3,8 @@ use Prim.Native.Nat.{ℕ, _+_}
 use mathlib.Core.Bool.{Bool, false, cond, not, _&&_}
 use lib.Dec.{eqb, leb}
 use Rattle.format.specs.declared.Totals.{Totals}
-use Rattle.format.specs.declared.Answer.{Answer, the-variants.Taken, the-variants.Declined}
+use Rattle.format.specs.declared.Answer.{Answer}
+use Rattle.format.specs.Answer.{acceptedWith, refusedBy}
 use Rattle.format.specs.Dialect.{lf, blanks, ragged, bytes, bitOf}
 use Rattle.format.specs.House.{fileLimit}
 use Rattle.format.specs.Place.{place}
@@ -27,7 +28,7 @@ totalled c =
 
 -- the answer of a state that no open field leaves
 unfoldable pub settledAnswer : Check → Answer
-settledAnswer c = cond (eqb (c .refusal) 0) (Taken (totalled c)) (Declined (c .refusal) (c .anchor))
+settledAnswer c = cond (eqb (c .refusal) 0) (acceptedWith (totalled c)) (refusedBy (c .refusal) (c .anchor))
 
 -- bytes came since the last record's end, and no fault
 abbrev pub isOpen : Check → Bool
@@ -36,12 +37,12 @@ isOpen c = eqb (c .refusal) 0 && not (eqb (c .begun) 0)
 -- the answer if the file ends in an open record
 abbrev pub cut : Check → Answer
 cut c =
-    cond (eqb (c .form) 3) (Declined 8 (c .anchor))
-    (cond (leb 6 (c .form)) (Declined 6 (c .anchor)) (settledAnswer (recordEnded (c .used) (c .here) (c .here) false c)))
+    cond (eqb (c .form) 3) (refusedBy 8 (c .anchor))
+    (cond (leb 6 (c .form)) (refusedBy 6 (c .anchor)) (settledAnswer (recordEnded (c .used) (c .here) (c .here) false c)))
 
 -- the answer as if the file ended here
 unfoldable pub asked : Check → Answer
 asked c =
     cond (isValid (c .delimiter) (c .leniencies))
-    (cond (leb (c .here .byte .0) fileLimit) (cond (isOpen c) (cut c) (settledAnswer c)) (Declined 2 (place 0 0 0)))
-    (Declined 1 (place 0 0 0))
+    (cond (leb (c .here .byte .0) fileLimit) (cond (isOpen c) (cut c) (settledAnswer c)) (refusedBy 2 (place 0 0 0)))
+    (refusedBy 1 (place 0 0 0))

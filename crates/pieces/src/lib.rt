@@ -5,6 +5,7 @@
 ghost use mathlib.Core.Bool.{true};
 ghost use mathlib.Core.Path.{_≡_};
 ghost use Rattle.format.specs.Place.{place};
+ghost use Rattle.format.specs.Answer.{refusedBy};
 ghost use Rattle.places.specs.Counters.{along};
 ghost use Rattle.state.specs.Check.{entered, placed, fed, jumped};
 ghost use Rattle.pieces.specs.Asked.{bitIf, totalled, settledAnswer};
@@ -97,10 +98,10 @@ pub fn ask(check: Check) -> Answer
     ensures { λ r. ⌜ Asked check r ⌝ }
 {
     if !state::is_valid(check.delimiter, check.leniencies) {
-        return Answer::Declined(1, places::nowhere());
+        return refused_by(1, places::nowhere());
     }
     if format::FILE_LIMIT < check.here.byte.0 {
-        return Answer::Declined(2, places::nowhere());
+        return refused_by(2, places::nowhere());
     }
     if check.refusal != 0 {
         return settled(check);
@@ -110,14 +111,32 @@ pub fn ask(check: Check) -> Answer
     }
     let anchor = check.anchor;
     if check.form == 3 {
-        return Answer::Declined(8, anchor);
+        return refused_by(8, anchor);
     }
     if 6 <= check.form {
-        return Answer::Declined(6, anchor);
+        return refused_by(6, anchor);
     }
     let used = check.used;
     let here = check.here;
     settled(check.record_ended(used, here, here, false))
+}
+
+// The answer of a refusal, with the place that it names: of the totals nothing is said.
+pub fn refused_by(n: u8, p: Place) -> Answer
+    ensures { λ r. ⌜ r ≡ refusedBy n p ⌝ }
+{
+    let fields = FieldNumber(0);
+    let totals = Totals {
+        records: 0,
+        fields,
+        text: 0,
+        report: 0,
+    };
+    Answer {
+        refusal: n as u32,
+        place: p,
+        totals,
+    }
 }
 
 // One byte more: behind a refusal it is only counted, and what is one jump, or may close the quotes,
@@ -194,12 +213,16 @@ fn shut(check: Check) -> Check
 fn settled(check: Check) -> Answer
     ensures { λ r. ⌜ r ≡ settledAnswer check ⌝ }
 {
-    if check.refusal == 0 {
-        let s = totalled(check);
-        Answer::Taken(s)
-    } else {
+    if check.refusal != 0 {
         let anchor = check.anchor;
-        Answer::Declined(check.refusal, anchor)
+        return refused_by(check.refusal, anchor);
+    }
+    let place = places::nowhere();
+    let totals = totalled(check);
+    Answer {
+        refusal: 0,
+        place,
+        totals,
     }
 }
 
@@ -220,7 +243,7 @@ fn totalled(check: Check) -> Totals
 }
 
 // The bit n of a leniency that was used.
-fn bit_if(used: u8, n: u8) -> u8
+fn bit_if(used: u8, n: u32) -> u32
     ensures { λ r. ⌜ r ≡ bitIf used n ⌝ }
 {
     if used == 0 { 0 } else { n }

@@ -1,5 +1,5 @@
--- Laws of the calls: any two outcomes coincide, office and auditor, and the table that comes out.
-use Prim.Native.Nat.{ℕ}
+-- Laws of the calls: any two outcomes coincide, the table that comes out, and that the room is enough.
+use Prim.Native.Nat.{ℕ, _+_, _≤_}
 use native.Mathlib.Omega.{arith}
 use mathlib.Core.Path.{_≡_, refl, sym, ap, subst, _∙_}
 use mathlib.Core.List.{List, flatten}
@@ -7,15 +7,18 @@ use mathlib.Core.Logic.{_⊎_, inl, inr}
 use lib.ListN.{length, take}
 use lib.Seq.{take-append-seam}
 use Rattle.format.specs.declared.Totals.{Totals}
-use Rattle.format.specs.declared.Answer.{Answer, the-variants.Taken, the-variants.Declined}
+use Rattle.format.specs.declared.Answer.{Answer}
+use Rattle.format.specs.Answer.{acceptedAs, refusedBy}
 use Rattle.format.specs.Table.{Bytes, Table}
 use Rattle.format.specs.Memory.{textOf, endsOf, rowsOf, WellFormed, tableOf}
 use Rattle.format.specs.Place.{place}
 use Rattle.format.specs.Reading.{Accepted}
 use Rattle.format.proofs.CanHold.{reading-can-hold}
 use Rattle.format.proofs.Memory.{length-lengths, table-well-formed, table-back}
-use Rattle.steps.proofs.Theorems.{one-accepted, one-refused, never-both, office-auditor}
-use Rattle.pieces.specs.Answers.{totalsOf, Answers, accepted, refused}
+use Rattle.format.proofs.Numbers.{refused-number}
+use Rattle.format.proofs.Room.{room-enough as sizes}
+use Rattle.steps.proofs.Theorems.{one-accepted, one-refused, never-both}
+use Rattle.pieces.specs.Answers.{Answers, accepted, refused}
 use Rattle.pieces.proofs.Stands.{one-answer}
 use Rattle.format.specs.Filling.{over}
 use Rattle.reader.specs.Read.{Room, NoRoom, no-text, no-ends, no-rows, ReadOutcome}
@@ -33,6 +36,11 @@ module _ {t : Table} {text : Bytes} {ends rows : List ℕ} where
   one-room (no-rows f g h) (no-ends i j) = absurd (omega arith)
   one-room (no-rows f g h) (no-rows i j k) = refl
 
+  room-number : {n : ℕ} → NoRoom t text ends rows n → 11 ≤ n
+  room-number (no-text h) = omega arith
+  room-number (no-ends g h) = omega arith
+  room-number (no-rows f g h) = omega arith
+
   room-or-not : {n : ℕ} → Room t text ends rows → NoRoom t text ends rows n → ⊥
   room-or-not r (no-text h) = omega (arith, r .for-text)
   room-or-not r (no-ends g h) = omega (arith, r .for-ends)
@@ -43,14 +51,14 @@ module _ {b sum : ℕ} {f text : Bytes} {ends rows : List ℕ} where
   pub one-outcome :
       {a a′ : Answer} {x x′ : Bytes} {y y′ z z′ : List ℕ}
       → ReadOutcome b sum f text ends rows a x y z → ReadOutcome b sum f text ends rows a′ x′ y′ z′ → (a ≡ a′) × (x ≡ x′) × (y ≡ y′) × (z ≡ z′)
-  one-outcome (ReadOutcome.refused h) (ReadOutcome.refused i) = let e = one-refused h i in ((λ j. Declined (e .0 j) (e .1 j)), refl, refl, refl)
+  one-outcome (ReadOutcome.refused h) (ReadOutcome.refused i) = let e = one-refused h i in ((λ j. refusedBy (e .0 j) (e .1 j)), refl, refl, refl)
   one-outcome (ReadOutcome.refused h) (ReadOutcome.no-room i k) = absurd (never-both i h)
   one-outcome (ReadOutcome.refused h) (ReadOutcome.filled i k) = absurd (never-both i h)
   one-outcome (ReadOutcome.no-room h k) (ReadOutcome.refused i) = absurd (never-both h i)
   one-outcome (ReadOutcome.no-room {n} h k) (ReadOutcome.no-room i l) =
       let e = one-accepted h i in
       let s = one-room (subst (λ (t : Table). NoRoom t text ends rows n) (e .0) k) l in
-      (ap (λ (m : ℕ). Declined m (place 0 0 0)) s, refl, refl, refl)
+      (ap (λ (m : ℕ). refusedBy m (place 0 0 0)) s, refl, refl, refl)
   one-outcome (ReadOutcome.no-room h k) (ReadOutcome.filled {t} i l) =
       absurd (room-or-not (subst (λ (u : Table). Room u text ends rows) (one-accepted i h .0) l) k)
   one-outcome (ReadOutcome.filled h k) (ReadOutcome.refused i) = absurd (never-both h i)
@@ -58,7 +66,7 @@ module _ {b sum : ℕ} {f text : Bytes} {ends rows : List ℕ} where
       absurd (room-or-not (subst (λ (u : Table). Room u text ends rows) (one-accepted h i .0) k) l)
   one-outcome (ReadOutcome.filled h k) (ReadOutcome.filled i l) =
       let e = one-accepted h i in (
-        (λ j. Taken (totalsOf (e .0 j) (e .1 j))),
+        (λ j. acceptedAs (e .0 j) (e .1 j)),
         ap (λ (t : Table). over (textOf t) text) (e .0),
         ap (λ (t : Table). over (endsOf t) ends) (e .0),
         ap (λ (t : Table). over (rowsOf t) rows) (e .0),
@@ -68,20 +76,36 @@ module _ {b sum : ℕ} {f text : Bytes} {ends rows : List ℕ} where
 pub check-is-read :
     {b sum : ℕ} {f text : Bytes} {ends rows : List ℕ} {a a′ : Answer} {x : Bytes} {y z : List ℕ}
     → Answers b sum f a → ReadOutcome b sum f text ends rows a′ x y z
-    → (a ≡ a′) ⊎ ((t : Table) × (r n : ℕ) × (a ≡ Taken (totalsOf t r)) × NoRoom t text ends rows n × (a′ ≡ Declined n (place 0 0 0)))
+    → (a ≡ a′) ⊎ ((t : Table) × (r n : ℕ) × (a ≡ acceptedAs t r) × NoRoom t text ends rows n × (a′ ≡ refusedBy n (place 0 0 0)))
 check-is-read h (ReadOutcome.refused i) = inl (one-answer h (refused i))
 check-is-read h (ReadOutcome.no-room {t} {r} {n} i k) = inr (t, r, n, one-answer h (accepted i), k, refl)
 check-is-read h (ReadOutcome.filled i k) = inl (one-answer h (accepted i))
 
--- `read` with comma that reports 0 means that `read_strict` answers the same, with the same buffers
-pub office-auditor-read :
-    {sum : ℕ} {f text : Bytes} {ends rows : List ℕ} {s : Totals} {a : Answer} {x x′ : Bytes} {y y′ z z′ : List ℕ}
-    → ReadOutcome 0x2C sum f text ends rows (Taken s) x y z → s .report ≡ 0 → ReadOutcome 0x2C 0 f text ends rows a x′ y′ z′
-    → (a ≡ Taken s) × (x′ ≡ x) × (y′ ≡ y) × (z′ ≡ z)
-office-auditor-read {sum} {f} (ReadOutcome.filled {t} {r} h k) e o =
-    let strict = office-auditor (subst (Accepted 0x2C sum f t) e h) in
-    let same = one-outcome o (ReadOutcome.filled strict k) in
-    (same .0 ∙ ap (λ (n : ℕ). Taken (totalsOf t n)) (sym e), same .1, same .2, same .3)
+-- what a read that is not refused has done
+pub record Filled (b sum : ℕ) (f text : Bytes) (ends rows : List ℕ) (a : Answer) (x : Bytes) (y z : List ℕ) : Type 0 where
+  pub table : Table
+  pub report : ℕ
+  pub accepted : Accepted b sum f table report
+  pub room : Room table text ends rows
+  pub answer-is : a ≡ acceptedAs table report
+  pub text-is : x ≡ over (textOf table) text
+  pub ends-is : y ≡ over (endsOf table) ends
+  pub rows-is : z ≡ over (rowsOf table) rows
+
+module _ {b sum : ℕ} {f text : Bytes} {ends rows : List ℕ} where
+  pub not-refused :
+      {a : Answer} {x : Bytes} {y z : List ℕ} → ReadOutcome b sum f text ends rows a x y z → a .refusal ≡ 0 → Filled b sum f text ends rows a x y z
+  not-refused (ReadOutcome.refused h) e = absurd (omega (arith, refused-number h))
+  not-refused (ReadOutcome.no-room h k) e = absurd (omega (arith, room-number k))
+  not-refused (ReadOutcome.filled {t} {r} h k) e =
+      record { table = t; report = r; accepted = h; room = k; answer-is = refl; text-is = refl; ends-is = refl; rows-is = refl }
+
+  -- a refusal leaves every buffer as it was
+  pub refused-same :
+      {a : Answer} {x : Bytes} {y z : List ℕ} → ReadOutcome b sum f text ends rows a x y z → (a .refusal ≡ 0 → ⊥) → (x ≡ text) × (y ≡ ends) × (z ≡ rows)
+  refused-same (ReadOutcome.refused h) n = (refl, refl, refl)
+  refused-same (ReadOutcome.no-room h k) n = (refl, refl, refl)
+  refused-same (ReadOutcome.filled h k) n = absurd (n refl)
 
 -- the used part of the three buffers is well formed, and is the grammar's table
 pub record Holding (b sum : ℕ) (f : Bytes) (s : Totals) (x : Bytes) (y z : List ℕ) : Type 0 where
@@ -91,9 +115,11 @@ pub record Holding (b sum : ℕ) (f : Bytes) (s : Totals) (x : Bytes) (y z : Lis
   pub formed : WellFormed (take (s .text) x) (take (s .fields .0) y) (take (s .records) z)
 
 pub read-table :
-    {b sum : ℕ} {f text : Bytes} {ends rows : List ℕ} {s : Totals} {x : Bytes} {y z : List ℕ}
-    → ReadOutcome b sum f text ends rows (Taken s) x y z → Holding b sum f s x y z
-read-table {b} {sum} {text} {ends} {rows} (ReadOutcome.filled {t} h k) =
+    {b sum : ℕ} {f text : Bytes} {ends rows : List ℕ} {a : Answer} {x : Bytes} {y z : List ℕ}
+    → ReadOutcome b sum f text ends rows a x y z → a .refusal ≡ 0 → Holding b sum f (a .totals) x y z
+read-table (ReadOutcome.refused h) e = absurd (omega (arith, refused-number h))
+read-table (ReadOutcome.no-room h k) e = absurd (omega (arith, room-number k))
+read-table {b} {sum} {text} {ends} {rows} (ReadOutcome.filled {t} h k) e =
     record {
       table = t;
       accepted = h;
@@ -109,3 +135,11 @@ read-table {b} {sum} {text} {ends} {rows} (ReadOutcome.filled {t} h k) =
 
     used-rows : take (length t) (over (rowsOf t) rows) ≡ rowsOf t
     used-rows = rw (← length-lengths 0 t) (take-append-seam (rowsOf t) _)
+
+-- Text of the file's length, ends of one more and rows of the file's length are always enough: then the read is not refused for lack of room.
+pub room-enough :
+    {b sum : ℕ} {f : Bytes} {t : Table} {r : ℕ} {text : Bytes} {ends rows : List ℕ}
+    → Accepted b sum f t r → length f ≤ length text → length f + 1 ≤ length ends → length f ≤ length rows → Room t text ends rows
+room-enough h i j k =
+    let w = sizes (h .reading) in
+    record { for-text = omega (arith, w .text); for-ends = omega (arith, w .ends); for-rows = omega (arith, w .rows) }

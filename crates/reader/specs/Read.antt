@@ -3,12 +3,12 @@ use Prim.Native.Nat.{ℕ, _≤_, _<_}
 use mathlib.Core.List.{List, flatten}
 use lib.ListN.{length}
 use Rattle.format.specs.declared.Place.{Place}
-use Rattle.format.specs.declared.Answer.{Answer, the-variants.Taken, the-variants.Declined}
+use Rattle.format.specs.declared.Answer.{Answer}
 use Rattle.format.specs.Table.{Bytes, Table}
 use Rattle.format.specs.Memory.{textOf, endsOf, rowsOf}
 use Rattle.format.specs.Place.{place}
 use Rattle.format.specs.Reading.{Accepted, Refused}
-use Rattle.pieces.specs.Answers.{totalsOf}
+use Rattle.format.specs.Answer.{acceptedAs, refusedBy}
 use Rattle.format.specs.Filling.{over}
 
 -- room for a table: its contents in text, a place of ends for each field, one of rows for each record
@@ -26,9 +26,9 @@ pub data NoRoom (t : Table) (text : Bytes) (ends rows : List ℕ) : ℕ → Type
 -- `ReadOutcome b sum f text ends rows a text′ ends′ rows′`: the file f, in the dialect of two bytes, read into three buffers, is answered by a, and the
 -- buffers are then the last three. Where the file is refused or there is no room they are as they were.
 pub data ReadOutcome (b sum : ℕ) (f text : Bytes) (ends rows : List ℕ) : Answer → Bytes → List ℕ → List ℕ → Type 0 where
-  refused : {n : ℕ} {p : Place} → Refused b sum f n p → ReadOutcome b sum f text ends rows (Declined n p) text ends rows
+  refused : {n : ℕ} {p : Place} → Refused b sum f n p → ReadOutcome b sum f text ends rows (refusedBy n p) text ends rows
   no-room : {t : Table} {r n : ℕ}
-      → Accepted b sum f t r → NoRoom t text ends rows n → ReadOutcome b sum f text ends rows (Declined n (place 0 0 0)) text ends rows
+      → Accepted b sum f t r → NoRoom t text ends rows n → ReadOutcome b sum f text ends rows (refusedBy n (place 0 0 0)) text ends rows
   filled : {t : Table} {r : ℕ}
       → Accepted b sum f t r → Room t text ends rows
-      → ReadOutcome b sum f text ends rows (Taken (totalsOf t r)) (over (textOf t) text) (over (endsOf t) ends) (over (rowsOf t) rows)
+      → ReadOutcome b sum f text ends rows (acceptedAs t r) (over (textOf t) text) (over (endsOf t) ends) (over (rowsOf t) rows)

@@ -8,17 +8,12 @@ ghost use lib.ListN.{length};
 ghost use Rattle.format.specs.Dialect.{dialect};
 ghost use Rattle.format.specs.Filling.{over};
 ghost use Rattle.format.specs.Place.{place};
-ghost use Rattle.format.specs.declared.Answer.{the-variants.Taken, the-variants.Declined};
+ghost use Rattle.format.specs.Answer.{refusedBy};
 ghost use Rattle.fill.specs.Fill.{textIn, endsIn, rowsIn};
 ghost use Rattle.pieces.specs.Answers.{Answers};
 ghost use Rattle.reader.specs.Read.{ReadOutcome};
 use fill::Head;
 use format::Answer;
-use format::ByteOffset;
-use format::Column;
-use format::Line;
-use format::Place;
-use format::Totals;
 
 // Reads a file in a dialect: the table into the three buffers, what stands behind it left alone; or
 // the refusal, and nothing written.
@@ -33,10 +28,10 @@ pub fn read(
     ensures { λ r. ⌜ ReadOutcome delimiter leniencies (now (file .entry)) (now (text .entry)) (now (ends .entry)) (now (rows .entry)) r (now (text .exit)) (now (ends .exit)) (now (rows .exit)) ⌝ }
 {
     let answer = checked(file, delimiter, leniencies);
-    match answer {
-        Answer::Declined(n, p) => Answer::Declined(n, p),
-        Answer::Taken(s) => read_accepted(file, delimiter, leniencies, s, text, ends, rows),
+    if answer.refusal != 0 {
+        return answer;
     }
+    read_accepted(file, delimiter, leniencies, answer, text, ends, rows)
 }
 
 // Reads a file in the strict dialect: comma, and no leniency.
@@ -53,42 +48,37 @@ fn checked(file: &[u8], delimiter: u8, leniencies: u8) -> Answer
     pieces::ask(pieces::feed(pieces::start(delimiter, leniencies), file))
 }
 
-// Reads a file that the check accepted, with its totals, if there is room.
+// Reads a file that the check accepted, with its answer, if there is room.
 fn read_accepted(
     file: &[u8],
     delimiter: u8,
     leniencies: u8,
-    t: Totals,
+    answer: Answer,
     text: &mut [u8],
     ends: &mut [u32],
     rows: &mut [u32],
 ) -> Answer
-    requires { ⌜ Answers delimiter leniencies (now file) (Taken t) ⌝ }
+    requires { ⌜ Answers delimiter leniencies (now file) answer × (answer .refusal ≡ 0) ⌝ }
     ensures { λ r. ⌜ ReadOutcome delimiter leniencies (now (file .entry)) (now (text .entry)) (now (ends .entry)) (now (rows .entry)) r (now (text .exit)) (now (ends .exit)) (now (rows .exit)) ⌝ }
 {
-    if text.len() < t.text as usize {
+    if text.len() < answer.totals.text as usize {
         return no_room(11);
     }
-    if ends.len() < t.fields.0 as usize {
+    if ends.len() < answer.totals.fields.0 as usize {
         return no_room(12);
     }
-    if rows.len() < t.records as usize {
+    if rows.len() < answer.totals.records as usize {
         return no_room(13);
     }
     write_table(file, delimiter, leniencies, text, ends, rows);
-    Answer::Taken(t)
+    answer
 }
 
 // The refusal of a buffer that is too small, which names no place.
 fn no_room(n: u8) -> Answer
-    ensures { λ r. ⌜ r ≡ Declined n (place 0 0 0) ⌝ }
+    ensures { λ r. ⌜ r ≡ refusedBy n (place 0 0 0) ⌝ }
 {
-    let place = Place {
-        line: Line(0),
-        column: Column(0),
-        byte: ByteOffset(0),
-    };
-    Answer::Declined(n, place)
+    pieces::refused_by(n, places::nowhere())
 }
 
 // Writes the table of an accepted file. Nothing is judged here: the check has been over the file, and
@@ -109,7 +99,7 @@ fn write_table(
     ensures { λ r. ⌜ now (ends .exit) ≡ over (endsIn (dialect delimiter leniencies) (now (file .entry))) (now (ends .entry)) ⌝ }
     ensures { λ r. ⌜ now (rows .exit) ≡ over (rowsIn (dialect delimiter leniencies) (now (file .entry))) (now (rows .entry)) ⌝ }
 {
-    let p = Head {
+    let head = Head {
         at: 0,
         form: 0,
         held: 0,
@@ -118,8 +108,8 @@ fn write_table(
         rows: 0,
         begun: false,
     };
-    let q = walk::walked(file, delimiter, leniencies, p, text, ends, rows);
-    if q.begun {
-        fill::put_end(q, q.at, true, ends, rows);
+    let last = walk::walked(file, delimiter, leniencies, head, text, ends, rows);
+    if last.begun {
+        fill::put_end(last, last.at, true, ends, rows);
     }
 }

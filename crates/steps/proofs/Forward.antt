@@ -8,7 +8,8 @@ use mathlib.Core.Bool.{Bool, true, false, cond, not, _||_, or-true, or-false}
 use mathlib.Core.List.{[], _∷_, flatten}
 use lib.Dec.{eqb, leb, eqb·suc-zero}
 use lib.ListN.{length}
-use Rattle.format.specs.declared.Answer.{Answer, the-variants.Taken, the-variants.Declined}
+use Rattle.format.specs.declared.Answer.{Answer}
+use Rattle.format.specs.Answer.{acceptedWith, acceptedAs, refusedBy}
 use Rattle.format.specs.Table.{Bytes, Content}
 use Rattle.format.specs.Dialect.{Leniency, lf, blanks, ragged, bytes, bitOf, Dialect, Class, text, blank, delimiter, quote, CR, LF, forbidden, classOf}
 use Rattle.format.specs.House.{differs, contentLimit}
@@ -204,11 +205,11 @@ abbrev bitIf : Bool → Leniency → ℕ
 bitIf x l = cond x (bitOf l) 0
 
 abbrev pub answer : Bytes → Bool → Ans Total → Answer
-answer F y (stop n p) = Declined n (placeOf F p)
+answer F y (stop n p) = refusedBy n (placeOf F p)
 answer F y (gives t) =
     let s = t .sums in
     let v = t .flags in
-    Taken
+    acceptedWith
     (record {
       records = s .records;
       fields = record { 0 = s .fields };
@@ -217,8 +218,8 @@ answer F y (gives t) =
     })
 
 abbrev pub answerOf : Verdict → Answer
-answerOf (accepts t r) = Taken (record { records = length t; fields = record { 0 = length (flatten t) }; text = length (textOf t); report = r })
-answerOf (refuses n p) = Declined n p
+answerOf (accepts t r) = acceptedAs t r
+answerOf (refuses n p) = refusedBy n p
 
 module _ (d : Dialect) where
   tallied-answer : (f : Bytes) (r : Judged) → Some r → answer f (some (wides d f)) (tallied (none f) r) ≡ answerOf (verdict d f r)

@@ -27,19 +27,27 @@ is-valid-requires c κs = tt
 nowhere-requires : tie.Need-nowhere-requires
 nowhere-requires c κs = tt
 
+refused-by-requires : tie.Need-refused-by-requires
+refused-by-requires c κs = tt
+
 returns : tie.Need-returns
 unfolding asked
 returns c = so-asked
-    (let invalid = rw (c .before .before .is-valid .ensures) at (not-true (c .before .before .is-valid .result) (c .before .if1 .taken)) in
-    rw (c .nowhere .ensures, invalid))
+    (let t = c .before .before in
+    let invalid = rw (t .before .is-valid .ensures) at (not-true (t .before .is-valid .result) (t .if1 .taken)) in
+    rw (c .refused-by .ensures, c .before .nowhere .ensures, invalid))
 
 nowhere-requires-2 : tie.Need-nowhere-requires-2
 nowhere-requires-2 c κs = tt
 
+refused-by-requires-2 : tie.Need-refused-by-requires-2
+refused-by-requires-2 c κs = tt
+
 returns-2 : tie.Need-returns-2
 unfolding asked
 returns-2 c = so-asked
-    (rw (c .nowhere2 .ensures, valid (c .before .before .before), lt-leb _ _ (c .before .if2 .taken)))
+    (let t = c .before .before in
+    rw (c .refused-by2 .ensures, c .before .nowhere2 .ensures, valid (t .before .before), lt-leb _ _ (t .if2 .taken)))
 
 settled-requires : tie.Need-settled-requires
 settled-requires c κs = tt
@@ -56,14 +64,22 @@ returns-4 c = so-asked
     (let d = c .before .before .before in
     rw (c .settled2 .ensures, within (d .before .before), eq-eqb _ _ (d .if3 .left), eq-eqb _ _ (c .before .if4 .taken)))
 
+refused-by-requires-3 : tie.Need-refused-by-requires-3
+refused-by-requires-3 c κs = tt
+
 returns-5 : tie.Need-returns-5
 returns-5 c = so-asked
-    (rw (ongoing (c .before .before .before), eq-eqb _ _ (c .if5 .taken)))
+    (let t = c .before in
+    rw (c .refused-by3 .ensures, ongoing (t .before .before .before), eq-eqb _ _ (t .if5 .taken)))
+
+refused-by-requires-4 : tie.Need-refused-by-requires-4
+refused-by-requires-4 c κs = tt
 
 returns-6 : tie.Need-returns-6
 returns-6 c = so-asked
-    (let d = c .before .before in
-    rw (ongoing (d .before .before .before), ne-eqb _ _ (d .if5 .left), le-leb _ _ (c .if6 .taken)))
+    (let t = c .before in
+    let d = t .before .before in
+    rw (c .refused-by4 .ensures, ongoing (d .before .before .before), ne-eqb _ _ (d .if5 .left), le-leb _ _ (t .if6 .taken)))
 
 record-ended-requires : tie.Need-record-ended-requires
 record-ended-requires c κs = tt
@@ -89,14 +105,18 @@ ask-spec =
     (tie.spec
     is-valid-requires
     nowhere-requires
+    refused-by-requires
     returns
     nowhere-requires-2
+    refused-by-requires-2
     returns-2
     settled-requires
     returns-3
     settled-requires-2
     returns-4
+    refused-by-requires-3
     returns-5
+    refused-by-requires-4
     returns-6
     record-ended-requires
     settled-requires-3

@@ -1,5 +1,5 @@
 -- `reader::read` meets its contract.
-use Rattle.reader.proofs.Outcomes.{accepts-it, declines}
+use Rattle.reader.proofs.Outcomes.{declines}
 use borrow.Author.Needs.{needs}
 use Rattle.reader.proofs.read.Statement.{statement}
 use Rattle.reader.proofs.read.Tie as tie
@@ -7,17 +7,13 @@ use Rattle.reader.proofs.read.Tie as tie
 checked-requires : tie.Need-checked-requires
 checked-requires c κs = search needs
 
-enum-known-answer : tie.Need-enum-known-answer
-enum-known-answer c = search needs
-
-enum-known-answer-2 : tie.Need-enum-known-answer-2
-enum-known-answer-2 c = search needs
+returns : tie.Need-returns
+returns c = declines (c .before .before .checked .ensures) (c .if1 .taken)
 
 read-accepted-requires : tie.Need-read-accepted-requires
-read-accepted-requires c κs = accepts-it (c .before .before .before .before .answer2 .given .1) (c .before .before .before .before .before .before .checked .ensures)
-
-returns : tie.Need-returns
-returns c = declines (c .before .answer .given .1) (c .before .before .before .checked .ensures)
+read-accepted-requires c κs =
+    let b = c .before .before .before in
+    (b .before .before .checked .ensures, b .if1 .left)
 
 same-length : tie.Need-same-length
 same-length c = search needs
@@ -36,10 +32,8 @@ read-spec =
     tie.close
     (tie.spec
     checked-requires
-    enum-known-answer
-    enum-known-answer-2
-    read-accepted-requires
     returns
+    read-accepted-requires
     same-length
     same-length-2
     same-length-3

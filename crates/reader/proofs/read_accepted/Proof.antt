@@ -1,9 +1,13 @@
 -- `reader::read_accepted` meets its contract.
-use Rattle.reader.proofs.Outcomes.{lacks-text, lacks-ends, lacks-rows, has-room, fills}
+use Rattle.reader.proofs.Outcomes.{Takes, accepts-it, lacks-text, lacks-ends, lacks-rows, has-room, fills}
 use native.Mathlib.Omega.{arith}
 use borrow.Author.Needs.{needs}
 use Rattle.reader.proofs.read_accepted.Statement.{statement}
 use Rattle.reader.proofs.read_accepted.Tie as tie
+
+-- the file is accepted, with the answer
+taken : (s : tie.Start) → let a = s .args in Takes (a .delimiter) (a .leniencies) (a .file .now) (a .answer)
+taken s = accepts-it (s .pre .0) (s .pre .1)
 
 cast-if1 : tie.Need-cast-if1
 cast-if1 c = search needs
@@ -14,7 +18,7 @@ no-room-requires c κs = search needs
 returns : tie.Need-returns
 returns c =
     let text-test = c .before in
-    lacks-text (text-test .before .before .before .before .before .before .pre) (text-test .if1 .taken) (c .no-room .ensures)
+    lacks-text (taken (text-test .before .before .before .before .before .before)) (text-test .if1 .taken) (c .no-room .ensures)
 
 cast-if2 : tie.Need-cast-if2
 cast-if2 c = search needs
@@ -26,7 +30,7 @@ returns-2 : tie.Need-returns-2
 returns-2 c =
     let ends-test = c .before in
     let text-test = ends-test .before .before in
-    lacks-ends (text-test .before .before .before .before .before .before .pre) (text-test .if1 .left) (ends-test .if2 .taken) (c .no-room2 .ensures)
+    lacks-ends (taken (text-test .before .before .before .before .before .before)) (text-test .if1 .left) (ends-test .if2 .taken) (c .no-room2 .ensures)
 
 cast-if3 : tie.Need-cast-if3
 cast-if3 c = search needs
@@ -39,7 +43,7 @@ returns-3 c =
     let rows-test = c .before in
     let ends-test = rows-test .before .before in
     let text-test = ends-test .before .before in
-    lacks-rows (text-test .before .before .before .before .before .before .pre) (text-test .if1 .left) (ends-test .if2 .left) (rows-test .if3 .taken)
+    lacks-rows (taken (text-test .before .before .before .before .before .before)) (text-test .if1 .left) (ends-test .if2 .left) (rows-test .if3 .taken)
     (c .no-room3 .ensures)
 
 write-table-requires : tie.Need-write-table-requires
@@ -48,10 +52,10 @@ write-table-requires c κs =
     let ends-test = rows-test .before .before in
     let text-test = ends-test .before .before in
     let x =
-    has-room (text-test .before .before .before .before .before .before .pre) (text-test .if1 .left) (ends-test .if2 .left) (rows-test .if3 .left) in
+    has-room (taken (text-test .before .before .before .before .before .before)) (text-test .if1 .left) (ends-test .if2 .left) (rows-test .if3 .left) in
     let s = text-test .before .before .before .before .before .before in
     let y =
-    has-room {x = 4294967295} {y = 4294967295} {z = 4294967295} (s .pre) (omega (arith, s .good)) (omega (arith, s .good)) (omega (arith, s .good)) in
+    has-room {x = 4294967295} {y = 4294967295} {z = 4294967295} (taken s) (omega (arith, s .good)) (omega (arith, s .good)) (omega (arith, s .good)) in
     ((y .0, y .1), (x .0, (x .1, x .2)))
 
 same-length : tie.Need-same-length
@@ -70,7 +74,7 @@ returns-4 c =
     let ends-test = rows-test .before .before in
     let text-test = ends-test .before .before in
     let e = filled .write-table .ensures in
-    fills (text-test .before .before .before .before .before .before .pre) (text-test .if1 .left) (ends-test .if2 .left) (rows-test .if3 .left) (e .0)
+    fills (taken (text-test .before .before .before .before .before .before)) (text-test .if1 .left) (ends-test .if2 .left) (rows-test .if3 .left) (e .0)
     (e .1 .0) (e .1 .1)
 
 pub read-accepted-spec : {M : Type 1} → statement M
