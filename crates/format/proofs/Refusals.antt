@@ -1,6 +1,6 @@
 -- Refusals 3 to 10 by the rules' table of places: what stands where a refusal is found and at the place that it names. All that a refusal says of what
 -- came before is left out. And the other way: where a field or a record ends in a fault, there is its refusal.
-use Prim.Native.Nat.{ℕ, _+_, _≤_, _<_}
+use Prim.Native.Nat.{ℕ, _≤_}
 use native.Mathlib.Omega.{arith}
 use mathlib.Core.Path.{_≡_, refl, sym, ap, subst, _∙_}
 use mathlib.Core.Bool.{Bool, true, false, not, _||_}
@@ -30,7 +30,8 @@ pub data Begins (d : Dialect) (f : Bytes) : Bytes → Type 0 where
   first : Begins d f f
   behind : {b : ℕ} {p : Bytes} (s : Bytes) → (b ≡ d .delimiterByte) ⊎ (b ≡ 0x0A) → f ≡ s ++ (b ∷ p) → Begins d f p
 
--- The table's rows for the field that begins at f: the number, where it is found, the place named.
+-- The table's rows for the field that begins at f: the number, the place where it is found and the place named. Beside each stand the table's words:
+-- meaning: found at; place named.
 pub data FieldRow (d : Dialect) (f : Bytes) : ℕ → Bytes → Bytes → Type 0 where
   -- forbidden byte: that byte; same
   row-3 : {b : ℕ} {p : Bytes} → At b p → classOf d b ≡ forbidden → FieldRow d f 3 p p
@@ -47,7 +48,7 @@ pub data FieldRow (d : Dialect) (f : Bytes) : ℕ → Bytes → Bytes → Type 0
   -- content over the limit: where the field ends; its first source byte
   row-9 : {p : Bytes} {c : Content} → Field d f c p → FieldEnd d p → (Fits c → ⊥) → FieldRow d f 9 p f
 
--- and for the file f
+-- and the rows for the file f
 pub data Row (d : Dialect) (f : Bytes) : ℕ → Bytes → Bytes → Type 0 where
   row-3-9 : {n : ℕ} {h found named : Bytes} → Begins d f h → FieldRow d h n found named → Row d f n found named
   -- wrong number of fields, other than the first record's: the record's line break, or file length; same
@@ -107,7 +108,9 @@ module _ (d : Dialect) (valid : T (delimits (d .delimiterByte))) where
   refusal-row (refusal-10 {t} {cs} x a r k i n) = let (es, u, y, o, w) = uneven-last t cs x (a .rows) n in row-10 y r k o w
 
   -- No fault is missed. A CR and an LF behind a field begin a line break, or are refused;
-  pub line-or-6 : {b : ℕ} {f : Bytes} {c : Content} (g : Bytes) → Field d f c (b ∷ g) → classOf d b ≡ CR → ((h : Bytes) × Break d (b ∷ g) h) ⊎ FieldRefusal d 6 f (b ∷ g) (b ∷ g)
+  pub line-or-6 :
+      {b : ℕ} {f : Bytes} {c : Content} (g : Bytes)
+      → Field d f c (b ∷ g) → classOf d b ≡ CR → ((h : Bytes) × Break d (b ∷ g) h) ⊎ FieldRefusal d 6 f (b ∷ g) (b ∷ g)
   line-or-6 [] p k = inr (refusal-6 p k tt)
   line-or-6 {b} {f} (a ∷ g) p k = go (eqb a 0x0A) refl
     where
@@ -115,7 +118,9 @@ module _ (d : Dialect) (valid : T (delimits (d .delimiterByte))) where
       go true e = let l : classOf d a ≡ LF = rw (eqb-true a 0x0A e) (class-LF d valid) in inl (g, Break.crlf k l)
       go false e = inr (refusal-6 p k (λ l. eqb-false a 0x0A e (LF-is d a l)))
 
-pub line-or-7 : {d : Dialect} {b : ℕ} {f g : Bytes} {c : Content} → Field d f c (b ∷ g) → classOf d b ≡ LF → Break d (b ∷ g) g ⊎ FieldRefusal d 7 f (b ∷ g) (b ∷ g)
+pub line-or-7 :
+    {d : Dialect} {b : ℕ} {f g : Bytes} {c : Content}
+    → Field d f c (b ∷ g) → classOf d b ≡ LF → Break d (b ∷ g) g ⊎ FieldRefusal d 7 f (b ∷ g) (b ∷ g)
 line-or-7 {d} {b} {f} {g} p k = go (d .allows lf) refl
   where
     go : (x : Bool) → d .allows lf ≡ x → Break d (b ∷ g) g ⊎ FieldRefusal d 7 f (b ∷ g) (b ∷ g)
@@ -128,7 +133,7 @@ fits-or-9 {d} {f} {g} {c} p k = go (leb (length c) contentLimit) refl
   where
     go : (x : Bool) → leb (length c) contentLimit ≡ x → Fits c ⊎ FieldRefusal d 9 f g f
     go true e = inl (leb-true (length c) contentLimit e)
-    go false e = inr (refusal-9 p k (leb-false (length c) contentLimit e))
+    go false e = inr (refusal-9 p k (omega (arith, leb-false (length c) contentLimit e)))
 
 -- and a record that ends keeps the rows equal, or is refused where it ends
 pub equal-or-10 :
@@ -139,7 +144,7 @@ equal-or-10 {d} {f} {h} {t} {cs} x a r k l = go (d .allows ragged || not (isRagg
   where
     go : (y : Bool) → (d .allows ragged || not (isRagged (t ++ (cs ∷ [])))) ≡ y → EqualRows d (t ++ (cs ∷ [])) ⊎ Refusal d 10 f h h
     go true e = inl (rw e tt)
-    go false e = inr (refusal-10 x a r k l (λ m. rw e at m))
+    go false e = inr (refusal-10 x a r k l (λ m. subst T e m))
 
 -- the numbers are 3 to 10
 pub row-number : {d : Dialect} {n : ℕ} {f found named : Bytes} → Row d f n found named → (3 ≤ n) × (n ≤ 10)

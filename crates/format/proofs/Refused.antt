@@ -1,5 +1,5 @@
--- Accepted and refused files: what is judged before reading, and the whole table of places, 1 to 10.
-use Prim.Native.Nat.{ℕ, _+_, _≤_, _<_}
+-- Accepted and refused files: what is judged before reading, and the table of places from 1 to 10.
+use Prim.Native.Nat.{ℕ, _≤_, _<_}
 use native.Mathlib.Omega.{arith}
 use mathlib.Core.Path.{_≡_, refl, sym, subst}
 use mathlib.Core.Bool.{Bool, true, false}
@@ -17,14 +17,14 @@ use Rattle.format.specs.Reading.{Reading, Accepted, Refused, refusal-1, 
 use Rattle.format.proofs.Places.{PlaceWithin, place-within}
 use Rattle.format.proofs.Refusals.{RestOf, refusal-rests, Row, row-number, refusal-row}
 
--- What is judged before reading: 1, else 2, else nothing is refused yet.
+-- What is judged before reading: 1, else 2, else nothing, for which 0 stands.
 pub data Before (b sum : ℕ) (f : Bytes) : ℕ → Type 0 where
   unknown : (Valid b sum → ⊥) → Before b sum f 1
   too-long : Valid b sum → fileLimit < length f → Before b sum f 2
   ready : Valid b sum → length f ≤ fileLimit → Before b sum f 0
 
 module _ {b sum : ℕ} {f : Bytes} where
-  -- exactly one of the three holds
+  -- not more than one of the three holds, and (`some-before`) one does
   pub one-before : {n m : ℕ} → Before b sum f n → Before b sum f m → n ≡ m
   one-before (unknown n) (unknown m) = refl
   one-before (unknown n) (too-long v l) = absurd (n v)
@@ -39,17 +39,17 @@ module _ {b sum : ℕ} {f : Bytes} where
   -- the first two are refusals; behind them a reading is accepted, and a refusal is one of the file
   pub refused-before : {n : ℕ} → Before b sum f n → 1 ≤ n → Refused b sum f n (place 0 0 0)
   refused-before (unknown n) h = refusal-1 n
-  refused-before (too-long v l) h = refusal-2 v l
+  refused-before (too-long v l) h = refusal-2 v (omega arith)
   refused-before (ready v l) h = absurd (omega arith)
 
   pub accepted-reading : {t : Table} {r : ℕ} → Before b sum f 0 → Reading (dialect b sum) f t r → Accepted b sum f t r
-  accepted-reading (ready v l) p = record { valid = v; short = l; reading = p }
+  accepted-reading (ready v l) p = record { valid = v; short = omega arith; reading = p }
 
   pub refused-refusal : {n : ℕ} {found named : Bytes} → Before b sum f 0 → Refusal (dialect b sum) n f found named → Refused b sum f n (placeOf f named)
-  refused-refusal (ready v l) x = in-file v l x refl
+  refused-refusal (ready v l) x = in-file v (omega arith) x refl
 
   pub accepted-before : {t : Table} {r : ℕ} → Accepted b sum f t r → Before b sum f 0
-  accepted-before a = ready (a .valid) (a .short)
+  accepted-before a = ready (a .valid) (omega (arith, a .short))
 
 pub some-before : (b sum : ℕ) (f : Bytes) → (n : ℕ) × Before b sum f n
 some-before b sum f = go (delimits b) (leb sum 15) (leb (length f) fileLimit) refl refl refl
@@ -70,8 +70,8 @@ pub data RefusedRow (b sum : ℕ) (f : Bytes) : ℕ → Place → Type 0 where
 
 pub refused-row : {b sum : ℕ} {f : Bytes} {n : ℕ} {p : Place} → Refused b sum f n p → RefusedRow b sum f n p
 refused-row (refusal-1 n) = row-1-2 (unknown n) (omega arith)
-refused-row (refusal-2 v l) = row-1-2 (too-long v l) (omega arith)
-refused-row {b} {sum} (in-file v l x q) = row-3-10 (ready v l) (refusal-row (dialect b sum) (v .0) x) (refusal-rests x .1) q
+refused-row (refusal-2 v l) = row-1-2 (too-long v (omega arith)) (omega arith)
+refused-row {b} {sum} (in-file v l x q) = row-3-10 (ready v (omega arith)) (refusal-row (dialect b sum) (v .0) x) (refusal-rests x .1) q
 
 -- an accepted file is not refused by 1 or 2
 pub accepted-not-before : {b sum : ℕ} {f : Bytes} {t : Table} {r n : ℕ} {p : Place} → Accepted b sum f t r → Refused b sum f n p → 3 ≤ n

@@ -6,7 +6,7 @@ use mathlib.Core.List.{List, [], _∷_, flatten}
 use lib.ListN.{length, length-append}
 use Rattle.format.specs.Table.{Bytes, Content, Table, Ending, without-break}
 use Rattle.format.specs.Dialect.{Dialect}
-use Rattle.format.specs.Grammar.{Blanks, Bare, Inside, opened, Quoted, closed, Field, Record, Break, File}
+use Rattle.format.specs.Grammar.{Blanks, Bare, Inside, opened, closed, Field, Record, Break, File}
 use Rattle.format.specs.House.{LastBreak, EmptyFile}
 use Rattle.format.specs.Memory.{textOf}
 use Rattle.format.specs.Reading.{Reading}
