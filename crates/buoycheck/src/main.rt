@@ -1,6 +1,8 @@
 // The check program: reads standard input as a strict file, through a buffer of 65,536 bytes, and
 // prints the eight house lines. It stops reading once the file is too long for good.
 use format::Answer;
+use format::Place;
+use format::Totals;
 
 fn main() {
     let mut space = io::large_buffer();
@@ -29,30 +31,22 @@ fn complain() {
 }
 
 fn print(answer: Answer) {
-    match answer {
-        Answer::Taken(t) => {
-            print_refusal(0, 0, 0, 0);
-            print_totals(t.records, t.fields.0, t.text, t.report);
-        }
-        Answer::Declined(n, p) => {
-            print_refusal(n, p.line.0, p.column.0, p.byte.0);
-            print_totals(0, 0, 0, 0);
-        }
-    }
+    print_line(b"refusal=", answer.refusal as u64);
+    print_place(answer.place);
+    print_totals(answer.totals);
 }
 
-fn print_refusal(refusal: u8, line: u32, column: u32, byte: u32) {
-    print_line(b"refusal=", refusal as u64);
-    print_line(b"line=", line as u64);
-    print_line(b"column=", column as u64);
-    print_line(b"byte=", byte as u64);
+fn print_place(place: Place) {
+    print_line(b"line=", place.line.0 as u64);
+    print_line(b"column=", place.column.0 as u64);
+    print_line(b"byte=", place.byte.0 as u64);
 }
 
-fn print_totals(records: u32, fields: u32, text: u32, report: u8) {
-    print_line(b"records=", records as u64);
-    print_line(b"fields=", fields as u64);
-    print_line(b"text=", text as u64);
-    print_line(b"report=", report as u64);
+fn print_totals(totals: Totals) {
+    print_line(b"records=", totals.records as u64);
+    print_line(b"fields=", totals.fields.0 as u64);
+    print_line(b"text=", totals.text as u64);
+    print_line(b"report=", totals.report as u64);
 }
 
 fn print_line(name: &[u8], n: u64) {

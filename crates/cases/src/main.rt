@@ -3,6 +3,8 @@
 // fields, text length and report; a refused one its number, then line, column and byte. The stored
 // output, with which this is compared, has the paper's values.
 use format::Answer;
+use format::Place;
+use format::Totals;
 use format::Written;
 
 fn main() {
@@ -99,28 +101,32 @@ fn print_case(name: &[u8], dialect: &[u8], answer: Answer, check: Answer) {
 }
 
 fn print_answer(answer: Answer) {
-    match answer {
-        Answer::Taken(t) => print_numbers(t.records, t.fields.0, t.text, t.report as u32),
-        Answer::Declined(n, p) => {
-            io::print_decimal(1, n as u64);
-            io::write_all(1, b"; ");
-            print_place(p.line.0, p.column.0, p.byte.0);
-        }
+    if answer.refusal == 0 {
+        print_totals(answer.totals);
+    } else {
+        io::print_decimal(1, answer.refusal as u64);
+        io::write_all(1, b"; ");
+        print_place(answer.place);
     }
 }
 
-fn print_numbers(records: u32, fields: u32, text: u32, report: u32) {
-    print_place(records, fields, text);
-    io::write_all(1, b", ");
-    io::print_decimal(1, report as u64);
+fn print_totals(totals: Totals) {
+    print_first(totals.records);
+    print_first(totals.fields.0);
+    print_first(totals.text);
+    io::print_decimal(1, totals.report as u64);
 }
 
-fn print_place(line: u32, column: u32, byte: u32) {
-    io::print_decimal(1, line as u64);
+fn print_place(place: Place) {
+    print_first(place.line.0);
+    print_first(place.column.0);
+    io::print_decimal(1, place.byte.0 as u64);
+}
+
+// A number that others follow.
+fn print_first(n: u32) {
+    io::print_decimal(1, n as u64);
     io::write_all(1, b", ");
-    io::print_decimal(1, column as u64);
-    io::write_all(1, b", ");
-    io::print_decimal(1, byte as u64);
 }
 
 // One record of an empty field and x,y: plain and full. And the file a, line break, two quotes: it has

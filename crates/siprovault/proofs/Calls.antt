@@ -1,34 +1,18 @@
--- Any two outcomes of an export coincide: its struct is the one that has its numbers, and the promises are those of the functions called.
+-- Any two outcomes of an export coincide: where its struct is its own, it is the one that has its numbers; and the promises are those of the functions called.
 use Prim.Native.Nat.{ℕ}
-use mathlib.Core.Path.{_≡_, sym, ap, _∙_}
+use mathlib.Core.Path.{_≡_, ap}
 use mathlib.Core.List.{List}
 use Rattle.format.specs.Table.{Bytes}
-use Rattle.format.specs.Answer.{readerNumbers}
-use Rattle.state.specs.declared.Check.{Check}
-use Rattle.reader.proofs.Calls.{one-outcome}
 use Rattle.tables.specs.Search.{Searched}
 use Rattle.tables.specs.Shown.{Located}
 use Rattle.tables.proofs.Searching.{one-found}
 use Rattle.tables.proofs.Showing.{one-place}
 use Rattle.writer.specs.Write.{WriteOutcome}
 use Rattle.writer.proofs.Calls.{one-numbers}
-use Rattle.siprovault.specs.declared.SvAnswer.{SvAnswer}
 use Rattle.siprovault.specs.declared.SvWritten.{SvWritten}
 use Rattle.siprovault.specs.declared.SvColumn.{SvColumn}
 use Rattle.siprovault.specs.declared.SvPart.{SvPart}
-use Rattle.siprovault.specs.Face.{answerNumbers, writtenNumbers, columnNumbers, foundNumbers, answerFrom, writtenFrom, columnFrom, partFrom, Reads, Asks}
-
-pub one-read :
-    {b sum : ℕ} {f text : Bytes} {ends rows : List ℕ} {r s : SvAnswer} {x x′ : Bytes} {y y′ z z′ : List ℕ}
-    → Reads b sum f text ends rows (answerNumbers r) x y z → Reads b sum f text ends rows (answerNumbers s) x′ y′ z′
-    → (r ≡ s) × (x ≡ x′) × (y ≡ y′) × (z ≡ z′)
-one-read p q =
-    let e = one-outcome (p .outcome) (q .outcome) in
-    (ap answerFrom (p .numbers-are ∙ ap readerNumbers (e .0) ∙ sym (q .numbers-are)), e .1, e .2, e .3)
-
-pub one-ask : {state : Check} {r s : SvAnswer} → Asks state (answerNumbers r) → Asks state (answerNumbers s) → r ≡ s
-one-ask p q =
-    ap answerFrom (p .numbers-are ∙ ap readerNumbers (p .asked .result ∙ sym (q .asked .result)) ∙ sym (q .numbers-are))
+use Rattle.siprovault.specs.Face.{writtenNumbers, columnNumbers, foundNumbers, writtenFrom, columnFrom, partFrom}
 
 module _ {text : Bytes} {ends rows : List ℕ} where
   pub one-write :

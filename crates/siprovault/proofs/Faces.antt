@@ -2,24 +2,18 @@
 use Prim.Native.Nat.{ℕ}
 use mathlib.Core.Path.{_≡_, sym, ap, subst}
 use mathlib.Core.List.{List}
-use Rattle.format.specs.declared.Answer.{Answer, the-variants.Taken, the-variants.Declined}
 use Rattle.format.specs.declared.Written.{Written, the-variants.Whole, the-variants.UnknownMode, the-variants.Malformed, the-variants.Forbidden, the-variants.LongContent, the-variants.Uneven, the-variants.LongFile, the-variants.NoRoom}
 use Rattle.format.specs.declared.Found.{Found, the-variants.At, the-variants.Malformed as Unfit, the-variants.Twice, the-variants.Missing}
 use Rattle.format.specs.declared.Part.{Part, the-variants.Lies, the-variants.Absent}
-use Rattle.format.specs.Answer.{readerNumbers, writerNumbers, searchNumbers, partNumbers}
+use Rattle.format.specs.Answer.{writerNumbers, searchNumbers, partNumbers}
 use Rattle.format.specs.Table.{Bytes}
 use Rattle.tables.specs.Search.{Searched}
 use Rattle.tables.specs.Shown.{Located}
 use Rattle.writer.specs.Write.{WriteOutcome}
-use Rattle.siprovault.specs.declared.SvAnswer.{SvAnswer}
 use Rattle.siprovault.specs.declared.SvWritten.{SvWritten}
 use Rattle.siprovault.specs.declared.SvColumn.{SvColumn}
 use Rattle.siprovault.specs.declared.SvPart.{SvPart}
-use Rattle.siprovault.specs.Face.{answerNumbers, writtenNumbers, columnNumbers, foundNumbers, answerFrom, writtenFrom, columnFrom, partFrom}
-
-pub answer-numbers : {r : SvAnswer} (a : Answer) → r ≡ answerFrom (readerNumbers a) → answerNumbers r ≡ readerNumbers a
-answer-numbers (Taken t) e = ap answerNumbers e
-answer-numbers (Declined n p) e = ap answerNumbers e
+use Rattle.siprovault.specs.Face.{writtenNumbers, columnNumbers, foundNumbers, writtenFrom, columnFrom, partFrom}
 
 pub written-numbers : {r : SvWritten} (a : Written) → r ≡ writtenFrom (writerNumbers a) → writtenNumbers r ≡ writerNumbers a
 written-numbers (Whole n) e = ap writtenNumbers e

@@ -1,49 +1,50 @@
 // The C face: each export is a call of a proved function, with that function's promise. The header
 // include/siprovault.h says the same in words. A slice is a pointer and a length there.
 ghost use mathlib.Core.Path.{_≡_};
-ghost use Rattle.format.specs.Answer.{readerNumbers, writerNumbers, searchNumbers, partNumbers};
-ghost use Rattle.pieces.specs.Answers.{Started, Fed};
+ghost use mathlib.Core.List.{[], _∷_};
+ghost use Prim.Native.Nat.{min};
+ghost use Rattle.format.specs.Answer.{writerNumbers, searchNumbers, partNumbers};
+ghost use Rattle.pieces.specs.Answers.{Started, Fed, Asked};
+ghost use Rattle.reader.specs.Read.{ReadOutcome};
 ghost use Rattle.tables.specs.Search.{Searched};
 ghost use Rattle.tables.specs.Shown.{Located};
 ghost use Rattle.writer.specs.Write.{WriteOutcome};
-ghost use Rattle.siprovault.specs.Face.{answerNumbers, writtenNumbers, columnNumbers, foundNumbers, answerFrom, writtenFrom, columnFrom, partFrom, Reads, Asks};
+ghost use Rattle.siprovault.specs.Face.{writtenNumbers, columnNumbers, foundNumbers, writtenFrom, columnFrom, partFrom};
 use format::Answer;
+use format::Column;
+use format::FieldNumber;
 use format::Found;
+use format::Line;
 use format::Part;
+use format::RecordNumber;
+use format::TextIndex;
 use format::Written;
 use state::Check;
 
+// An index from 0, of the kind that the refusal tells: of a text byte for 3, of a field for 9, of a
+// record for 10.
 #[repr(C)]
-pub struct SvAnswer {
-    pub refusal: u32,
-    pub line: u32,
-    pub column: u32,
-    pub byte: u32,
-    pub records: u32,
-    pub fields: u32,
-    pub text: u32,
-    pub report: u32,
-}
+pub struct Index(pub u32);
 
 #[repr(C)]
 pub struct SvWritten {
     pub refusal: u32,
-    pub line: u32,
-    pub column: u32,
-    pub byte: u32,
+    pub line: Line,
+    pub column: Column,
+    pub byte: Index,
     pub length: u32,
 }
 
 #[repr(C)]
 pub struct SvColumn {
     pub refusal: u32,
-    pub column: u32,
+    pub column: FieldNumber,
 }
 
 #[repr(C)]
 pub struct SvPart {
     pub found: u32,
-    pub start: u32,
+    pub start: TextIndex,
     pub length: u32,
 }
 
@@ -56,11 +57,10 @@ pub extern "C" fn sv_read(
     text: &mut [u8],
     ends: &mut [u32],
     rows: &mut [u32],
-) -> SvAnswer
-    ensures { λ r. ⌜ Reads delimiter leniencies (now (file .entry)) (now (text .entry)) (now (ends .entry)) (now (rows .entry)) (answerNumbers r) (now (text .exit)) (now (ends .exit)) (now (rows .exit)) ⌝ }
+) -> Answer
+    ensures { λ r. ⌜ ReadOutcome delimiter leniencies (now (file .entry)) (now (text .entry)) (now (ends .entry)) (now (rows .entry)) r (now (text .exit)) (now (ends .exit)) (now (rows .exit)) ⌝ }
 {
-    let answer = reader::read(file, delimiter, leniencies, text, ends, rows);
-    answered(answer)
+    reader::read(file, delimiter, leniencies, text, ends, rows)
 }
 
 // Reads a strict file into three buffers.
@@ -70,11 +70,10 @@ pub extern "C" fn sv_read_strict(
     text: &mut [u8],
     ends: &mut [u32],
     rows: &mut [u32],
-) -> SvAnswer
-    ensures { λ r. ⌜ Reads 0x2C 0 (now (file .entry)) (now (text .entry)) (now (ends .entry)) (now (rows .entry)) (answerNumbers r) (now (text .exit)) (now (ends .exit)) (now (rows .exit)) ⌝ }
+) -> Answer
+    ensures { λ r. ⌜ ReadOutcome 0x2C 0 (now (file .entry)) (now (text .entry)) (now (ends .entry)) (now (rows .entry)) r (now (text .exit)) (now (ends .exit)) (now (rows .exit)) ⌝ }
 {
-    let answer = reader::read_strict(file, text, ends, rows);
-    answered(answer)
+    reader::read_strict(file, text, ends, rows)
 }
 
 // Starts a check with a dialect.
@@ -95,10 +94,10 @@ pub extern "C" fn sv_check_feed(state: Check, piece: &[u8]) -> Check
 
 // Asks a check for the answer to all bytes so far as a whole file.
 #[no_mangle]
-pub extern "C" fn sv_check_ask(state: Check) -> SvAnswer
-    ensures { λ r. ⌜ Asks state (answerNumbers r) ⌝ }
+pub extern "C" fn sv_check_ask(state: Check) -> Answer
+    ensures { λ r. ⌜ Asked state r ⌝ }
 {
-    answered(pieces::ask(state))
+    pieces::ask(state)
 }
 
 // Writes a table as a strict file, plain in mode 0 and full in mode 1.
@@ -135,35 +134,16 @@ pub extern "C" fn sv_show(
 ) -> SvPart
     ensures { λ r. ⌜ Located (now (text .entry)) (now (ends .entry)) (now (rows .entry)) «record» column (foundNumbers r) ⌝ }
 {
-    part(tables::locate(text, ends, rows, record, column))
+    let r = RecordNumber(at_most(record));
+    let c = FieldNumber(at_most(column));
+    part(tables::locate(text, ends, rows, r, c))
 }
 
-// The eight numbers of an answer to a file.
-fn answered(answer: Answer) -> SvAnswer
-    ensures { λ r. ⌜ r ≡ answerFrom (readerNumbers answer) ⌝ }
+// A number, or the most that 32 bits hold, which is behind every record and every column.
+fn at_most(n: usize) -> u32
+    ensures { λ r. ⌜ r ≡ min n 4294967295 ⌝ }
 {
-    match answer {
-        Answer::Taken(t) => SvAnswer {
-            refusal: 0,
-            line: 0,
-            column: 0,
-            byte: 0,
-            records: t.records,
-            fields: t.fields.0,
-            text: t.text,
-            report: t.report as u32,
-        },
-        Answer::Declined(n, p) => SvAnswer {
-            refusal: n as u32,
-            line: p.line.0,
-            column: p.column.0,
-            byte: p.byte.0,
-            records: 0,
-            fields: 0,
-            text: 0,
-            report: 0,
-        },
-    }
+    if n < 4294967295 { n as u32 } else { 4294967295 }
 }
 
 // The five numbers of an answer to a write.
@@ -176,7 +156,7 @@ fn written(answer: Written) -> SvWritten
         Written::Malformed => outcome(14, 0, 0),
         Written::Forbidden(b) => outcome(3, b.0, 0),
         Written::LongContent(k) => outcome(9, k.0, 0),
-        Written::Uneven(r) => outcome(10, r, 0),
+        Written::Uneven(r) => outcome(10, r.0, 0),
         Written::LongFile => outcome(2, 0, 0),
         Written::NoRoom => outcome(15, 0, 0),
     }
@@ -184,13 +164,13 @@ fn written(answer: Written) -> SvWritten
 
 // Of these five, line and column are always 0.
 fn outcome(refusal: u32, byte: u32, length: u32) -> SvWritten
-    ensures { λ r. ⌜ r ≡ record { refusal = refusal; line = 0; column = 0; byte = byte; length = length } ⌝ }
+    ensures { λ r. ⌜ r ≡ writtenFrom (refusal ∷ 0 ∷ 0 ∷ byte ∷ length ∷ []) ⌝ }
 {
     SvWritten {
         refusal,
-        line: 0,
-        column: 0,
-        byte,
+        line: Line(0),
+        column: Column(0),
+        byte: Index(byte),
         length,
     }
 }
@@ -202,19 +182,19 @@ fn found(answer: Found) -> SvColumn
     match answer {
         Found::At(k) => SvColumn {
             refusal: 0,
-            column: k.0,
+            column: k,
         },
         Found::Malformed => SvColumn {
             refusal: 14,
-            column: 0,
+            column: FieldNumber(0),
         },
         Found::Twice(k) => SvColumn {
             refusal: 16,
-            column: k.0,
+            column: k,
         },
         Found::Missing => SvColumn {
             refusal: 17,
-            column: 0,
+            column: FieldNumber(0),
         },
     }
 }
@@ -226,12 +206,12 @@ fn part(answer: Part) -> SvPart
     match answer {
         Part::Lies(start, length) => SvPart {
             found: 1,
-            start: start.0,
+            start,
             length,
         },
         Part::Absent => SvPart {
             found: 0,
-            start: 0,
+            start: TextIndex(0),
             length: 0,
         },
     }

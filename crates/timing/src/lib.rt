@@ -1,15 +1,13 @@
 // The strict check of a whole file, and the strict read, under names that a benchmark links.
-ghost use mathlib.Core.Path.{_≡_};
-ghost use Rattle.timing.specs.Timing.{recordsOf, CheckTimed, ReadTimed};
-use format::Answer;
+ghost use Rattle.timing.specs.Timing.{CheckTimed, ReadTimed};
 
 // Checks a file, and says how many records it has; 0 where it is refused.
 #[no_mangle]
 pub extern "C" fn siprovault_timing_check(file: &[u8]) -> u32
     ensures { λ r. ⌜ CheckTimed (now (file .entry)) r ⌝ }
 {
-    let answer = pieces::ask(pieces::feed(pieces::start(b',', 0), file));
-    records(answer)
+    let checked = pieces::ask(pieces::feed(pieces::start(b',', 0), file));
+    checked.totals.records
 }
 
 // Reads a file, and says how many records it has; 0 where it is refused.
@@ -23,14 +21,5 @@ pub extern "C" fn siprovault_timing_read(
     ensures { λ r. ⌜ ReadTimed (now (file .entry)) (now (text .entry)) (now (ends .entry)) (now (rows .entry)) r (now (text .exit)) (now (ends .exit)) (now (rows .exit)) ⌝ }
 {
     let answer = reader::read_strict(file, text, ends, rows);
-    records(answer)
-}
-
-fn records(answer: Answer) -> u32
-    ensures { λ r. ⌜ r ≡ recordsOf answer ⌝ }
-{
-    match answer {
-        Answer::Taken(t) => t.records,
-        Answer::Declined(_, _) => 0,
-    }
+    answer.totals.records
 }
