@@ -16,7 +16,7 @@ use Rattle.steps.specs.Steps.{Form, quoted, shut, stepOf}
 use Rattle.steps.specs.Numbers.{formNumber, formOf, coded}
 use Rattle.steps.proofs.Acts.{text-puts, inside-puts, quote-shuts, quote-pairs}
 use Rattle.steps.proofs.Numbers.{form-number}
-use Rattle.steps.proofs.Rules.{step-is}
+use Rattle.steps.proofs.Rules.{form-back}
 use Rattle.runs.specs.Runs.{run, isPlain, isInner, pairs}
 use Rattle.runs.proofs.Runs.{run-le, run-first, pairs-le, pairs-first}
 use Rattle.runs.proofs.Bytes.{plain-class, plain-narrow, plain-no-lf, inner-inside, inner-narrow, inner-no-lf}
@@ -45,7 +45,7 @@ pub fed-is :
     (c : Check) (b : ℕ) (k : Form) (x : Class) → c .refusal ≡ 0 → c .form ≡ formNumber k → classOf (dialect (c .delimiter) (c .leniencies)) b ≡ x
     → fed c b ≡ placed (moved b (c .here)) (stepped (coded (stepOf (names (c .leniencies) lf) k x)) (noted b c) (moved b (c .here)) c)
 unfolding fed
-fed-is c b k x r f e = rw (eq-eqb _ _ r, e, f, step-is)
+fed-is c b k x r f e = rw (eq-eqb _ _ r, e, f, form-back)
 
 -- a byte of plain text outside quotes
 text-step :

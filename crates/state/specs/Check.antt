@@ -9,7 +9,8 @@ use Rattle.format.specs.Dialect.{lf, ragged, names, dialect, isWide, classOf}
 use Rattle.format.specs.House.{contentLimit}
 use Rattle.format.specs.Place.{place}
 use Rattle.steps.specs.declared.Stepped.{Stepped, the-variants.Refuse, the-variants.Quiet, the-variants.Put, the-variants.Hold, the-variants.Drop, the-variants.EndField, the-variants.EndRecord}
-use Rattle.steps.specs.Numbers.{classNumber, stepTable, stepBy}
+use Rattle.steps.specs.Steps.{stepOf}
+use Rattle.steps.specs.Numbers.{formOf, coded}
 use Rattle.places.specs.Counters.{plus, moved}
 use Rattle.state.specs.declared.Used.{Used}
 use Rattle.state.specs.declared.Current.{Current}
@@ -205,7 +206,7 @@ unfoldable pub fed : Check → ℕ → Check
 fed c b =
     placed (moved b (c .here))
     (cond (eqb (c .refusal) 0)
-    (stepped (stepBy stepTable (names (c .leniencies) lf) (c .form) (classNumber (classOf (dialect (c .delimiter) (c .leniencies)) b))) (noted b c) (moved b (c .here)) c)
+    (stepped (coded (stepOf (names (c .leniencies) lf) (formOf (c .form)) (classOf (dialect (c .delimiter) (c .leniencies)) b))) (noted b c) (moved b (c .here)) c)
     c)
 
 -- a piece

@@ -158,10 +158,7 @@ impl Check {
         if self.refusal != 0 {
             return self.placed(next);
         }
-        let t = steps::table();
-        let lf = self.leniencies % 2 == 1;
-        let class = steps::class_of(self.delimiter, self.leniencies, b);
-        let s = steps::step(&t, lf, self.form, class);
+        let s = steps::step(self.delimiter, self.leniencies, self.form, b);
         let v = self.noted(b);
         self.stepped(s, v, next).placed(next)
     }

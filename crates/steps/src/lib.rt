@@ -1,14 +1,11 @@
 // The machine: the class of a byte in a dialect, the step table, and one step.
 //
 // specs/Steps.antt has the table and what a byte does by it, specs/Numbers.antt the numbers that the
-// code has for forms, classes and entries. The table is taken into a local once and lent:
-//
-//     let t = steps::table();
-//     .. steps::step(&t, lf, form, class) ..
+// code has for forms, classes and entries.
 ghost use Prim.Native.Nat.{min};
 ghost use mathlib.Core.Path.{_≡_};
-ghost use Rattle.format.specs.Dialect.{dialect, classOf};
-ghost use Rattle.steps.specs.Steps.{carry};
+ghost use Rattle.format.specs.Dialect.{lf, names, dialect, classOf};
+ghost use Rattle.steps.specs.Steps.{carry, stepOf};
 ghost use Rattle.steps.specs.Numbers.{formOf, classNumber, classFrom, moveOf, coded, stepTable, stepBy};
 
 // What a byte does: it is refused, or it leads to a form and puts something out. The end of a field
@@ -41,8 +38,18 @@ const STEPS: [[u8; 7]; 7] = [
     [13, 13, 13, 13, 13, 7, 13],
 ];
 
+// What the byte b does in a form, in the dialect of any two bytes. Any number from 6 on counts as the
+// last form.
+pub fn step(delimiter: u8, leniencies: u8, form: u8, b: u8) -> Stepped
+    ensures { λ r. ⌜ r ≡ coded (stepOf (names leniencies lf) (formOf form) (classOf (dialect delimiter leniencies) b)) ⌝ }
+{
+    let t = table();
+    let class = class_of(delimiter, leniencies, b);
+    step_by(&t, leniencies % 2 == 1, form, class)
+}
+
 // The step table.
-pub fn table() -> [[u8; 7]; 7]
+fn table() -> [[u8; 7]; 7]
     ensures { λ r. ⌜ r ≡ stepTable ⌝ }
 {
     STEPS
@@ -73,7 +80,7 @@ pub fn class_of(delimiter: u8, leniencies: u8, b: u8) -> u8
 
 // One step by a table that is lent: the entry at a form and a class, carried out. Any number from 6
 // on counts as the last form, and as the last class.
-pub fn step(t: &[[u8; 7]; 7], lf: bool, form: u8, class: u8) -> Stepped
+fn step_by(t: &[[u8; 7]; 7], lf: bool, form: u8, class: u8) -> Stepped
     ensures { λ r. ⌜ r ≡ stepBy (now (t .entry)) lf form class ⌝ }
 {
     let row = at_most_six(form);
