@@ -22,7 +22,7 @@ pub fn is_plain(delimiter: u8, leniencies: u8, b: u8) -> bool
         return false;
     }
     if b == 0x20 {
-        return leniencies / 2 % 2 != 1;
+        return !steps::allows_blanks(leniencies);
     }
     if b < 0x21 {
         return false;

@@ -82,10 +82,7 @@ fn only_wide(delimiter: u8, b: u8) -> bool
     if b == delimiter {
         return false;
     }
-    if b == 0x09 {
-        return true;
-    }
-    0x80 <= b
+    steps::is_wide(b)
 }
 
 // The leniencies used where a field ends, with blanks held; even and lone say whether its record is
@@ -231,7 +228,7 @@ impl Check {
         let width = places::plus(self.field.number.0, 1);
         let even = as_wide(self.counts.width, width);
         if !even {
-            if self.leniencies / 4 % 2 != 1 {
+            if !steps::allows_ragged(self.leniencies) {
                 return self.stopped(10, at);
             }
         }

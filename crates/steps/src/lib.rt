@@ -4,7 +4,7 @@
 // code has for forms, classes and entries.
 ghost use Prim.Native.Nat.{min};
 ghost use mathlib.Core.Path.{_≡_};
-ghost use Rattle.format.specs.Dialect.{lf, names, dialect, classOf};
+ghost use Rattle.format.specs.Dialect.{lf, blanks, ragged, bytes, names, dialect, isWide, classOf};
 ghost use Rattle.steps.specs.Steps.{carry, stepOf};
 ghost use Rattle.steps.specs.Numbers.{formOf, classNumber, classFrom, moveOf, coded, stepTable, stepBy};
 
@@ -45,7 +45,7 @@ pub fn step(delimiter: u8, leniencies: u8, form: u8, b: u8) -> Stepped
 {
     let t = table();
     let class = class_of(delimiter, leniencies, b);
-    step_by(&t, leniencies % 2 == 1, form, class)
+    step_by(&t, allows_lf(leniencies), form, class)
 }
 
 // The step table.
@@ -53,6 +53,38 @@ fn table() -> [[u8; 7]; 7]
     ensures { λ r. ⌜ r ≡ stepTable ⌝ }
 {
     STEPS
+}
+
+// Whether a sum names a leniency: each is a bit of it.
+fn allows_lf(leniencies: u8) -> bool
+    ensures { λ r. ⌜ r ≡ names leniencies lf ⌝ }
+{
+    leniencies % 2 == 1
+}
+
+pub fn allows_blanks(leniencies: u8) -> bool
+    ensures { λ r. ⌜ r ≡ names leniencies blanks ⌝ }
+{
+    leniencies / 2 % 2 == 1
+}
+
+pub fn allows_ragged(leniencies: u8) -> bool
+    ensures { λ r. ⌜ r ≡ names leniencies ragged ⌝ }
+{
+    leniencies / 4 % 2 == 1
+}
+
+fn allows_bytes(leniencies: u8) -> bool
+    ensures { λ r. ⌜ r ≡ names leniencies bytes ⌝ }
+{
+    leniencies / 8 % 2 == 1
+}
+
+// Whether b is a byte that only the leniency "bytes" allows, if it is not the delimiter.
+pub fn is_wide(b: u8) -> bool
+    ensures { λ r. ⌜ r ≡ isWide b ⌝ }
+{
+    (b == 0x09) | (0x80 <= b)
 }
 
 // The number of the class of b in the dialect of any two bytes.
@@ -68,11 +100,11 @@ pub fn class_of(delimiter: u8, leniencies: u8, b: u8) -> u8
     } else if b == 0x0A {
         5
     } else if b == 0x20 {
-        if leniencies / 2 % 2 == 1 { 1 } else { 0 }
+        if allows_blanks(leniencies) { 1 } else { 0 }
     } else if 0x21 <= b && b <= 0x7E {
         0
-    } else if b == 0x09 || 0x80 <= b {
-        if leniencies / 8 % 2 == 1 { 0 } else { 6 }
+    } else if is_wide(b) {
+        if allows_bytes(leniencies) { 0 } else { 6 }
     } else {
         6
     }
