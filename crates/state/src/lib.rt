@@ -170,7 +170,7 @@ impl Check {
             Stepped::Refuse(n) => self.stopped(n, self.seen_at()),
             Stepped::Quiet(k) => {
                 let here = self.here;
-                let p = if k == 4 { anchor } else { here };
+                let p = if k == steps::SHUT { anchor } else { here };
                 self.entered(k, p, v, field)
             }
             Stepped::Put(k) => self.filled(k, v, 1),
@@ -186,7 +186,7 @@ impl Check {
             }
             Stepped::EndField => self.field_ended(v, next),
             Stepped::EndRecord => {
-                let behind_cr = 6 <= self.form;
+                let behind_cr = steps::AFTER_CR <= self.form;
                 self.record_ended(v, self.seen_at(), next, !behind_cr)
             }
         }
@@ -274,7 +274,7 @@ impl Check {
         ensures { λ r. ⌜ r ≡ opened begun v x s self ⌝ }
     {
         let mut c = self;
-        c.form = 0;
+        c.form = steps::START;
         c.begun = begun;
         c.used = v;
         c.field = x;
@@ -306,7 +306,7 @@ impl Check {
     fn seen_at(self) -> Place
         ensures { λ r. ⌜ r ≡ seenAt self ⌝ }
     {
-        if 6 <= self.form {
+        if steps::AFTER_CR <= self.form {
             self.anchor
         } else {
             self.here
