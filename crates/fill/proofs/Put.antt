@@ -6,6 +6,7 @@ use mathlib.Core.Bool.{Bool, true, false, cond, not, _&&_, _||_}
 use lib.Dec.{leb, ltb}
 use borrow.Author.Tests.{leb-true, leb-false, le-leb, lt-leb, ltb-true, ltb-false, lt-ltb, le-ltb}
 use Rattle.runs.proofs.Runs.{and-both}
+use Rattle.runs.specs.Words.{largest32}
 use Rattle.fill.specs.declared.Head.{Head}
 use Rattle.fill.specs.declared.Field.{Field}
 use Rattle.fill.specs.Put.{endFits, endOf, fieldFits}
@@ -20,8 +21,8 @@ within-is l from count h = by (leb count (l - from)) refl
 -- an end and a row
 pub record EndRoom (p : Head) (n : ℕ) (row : Bool) (e r : ℕ) : Type 0 where
   pub ends-room : p .ends < e
-  pub small : n ≤ 4294967295
-  pub few : p .ends < 4294967295
+  pub small : n ≤ largest32
+  pub few : p .ends < largest32
   pub rows-room : row ≡ true → p .rows < r
 
 pub end-room : (p : Head) (n : ℕ) (row : Bool) (e r : ℕ) → endFits p n row e r ≡ true → EndRoom p n row e r
@@ -33,7 +34,7 @@ end-room p n row e r h =
 
 pub room-end : (p : Head) (n : ℕ) (row : Bool) (e r : ℕ) → EndRoom p n row e r → endFits p n row e r ≡ true
 room-end p n row e r h =
-    rw (lt-ltb (p .ends) e (h .ends-room), le-leb n 4294967295 (h .small), lt-ltb (p .ends) 4294967295 (h .few)) (by row (h .rows-room))
+    rw (lt-ltb (p .ends) e (h .ends-room), le-leb n largest32 (h .small), lt-ltb (p .ends) largest32 (h .few)) (by row (h .rows-room))
   where
     by : (x : Bool) → (x ≡ true → p .rows < r) → (not x || ltb (p .rows) r) ≡ true
     by true g = lt-ltb (p .rows) r (g refl)
@@ -81,10 +82,10 @@ ltb-min n a b = go (ltb n a) (ltb n b) refl refl
 
 pub fits-least :
     (p : Head) (n : ℕ) (row : Bool) (t e r : ℕ)
-    → (leb n t && endFits p n row e r) ≡ (leb n (min t 4294967295) && (ltb (p .ends) (min e 4294967295) && (not row || ltb (p .rows) r)))
+    → (leb n t && endFits p n row e r) ≡ (leb n (min t largest32) && (ltb (p .ends) (min e largest32) && (not row || ltb (p .rows) r)))
 fits-least p n row t e r =
-    rw (leb-min n t 4294967295, ltb-min (p .ends) e 4294967295)
-    (go (leb n t) (leb n 4294967295) (ltb (p .ends) e) (ltb (p .ends) 4294967295) (not row || ltb (p .rows) r))
+    rw (leb-min n t largest32, ltb-min (p .ends) e largest32)
+    (go (leb n t) (leb n largest32) (ltb (p .ends) e) (ltb (p .ends) largest32) (not row || ltb (p .rows) r))
   where
     go : (a b c d f : Bool) → (a && (((c && b) && d) && f)) ≡ ((a && b) && ((c && d) && f))
     go true true true d f = refl

@@ -8,7 +8,7 @@ use lib.Seq.{sets}
 use Rattle.format.specs.Table.{Bytes}
 use Rattle.format.specs.Dialect.{Dialect}
 use Rattle.steps.specs.Steps.{quoted}
-use Rattle.steps.specs.Numbers.{formOf}
+use Rattle.steps.specs.Numbers.{formNumber, formOf}
 use Rattle.fill.specs.declared.Head.{Head}
 use Rattle.fill.specs.Fill.{textLeft, endsLeft, rowsLeft}
 
@@ -55,4 +55,4 @@ pub record Inside (f : Bytes) (at₀ n₀ : ℕ) (text₀ : Bytes) (at n : ℕ) 
 
 -- the head there
 abbrev pub between : ℕ → ℕ → Head → Head
-between at n p = record { at = at; form = 3; held = 0; text = n; ends = p .ends; rows = p .rows; begun = true }
+between at n p = record { at = at; form = formNumber quoted; held = 0; text = n; ends = p .ends; rows = p .rows; begun = true }

@@ -8,6 +8,7 @@ ghost use Prim.Native.Nat.{_+_, _-_, _<_, _≤_, min};
 ghost use lib.Dec.{leb, ltb};
 ghost use lib.ListN.{length, set, replicate, take, drop};
 ghost use lib.Seq.{sets};
+ghost use Rattle.runs.specs.Words.{largest32};
 ghost use Rattle.fill.specs.Put.{copyFits, endFits, fieldFits, endOf, behind, rowsWith};
 
 // Where the walk is: the next byte of the file, the form, the blanks held, how many of the text, the
@@ -163,18 +164,18 @@ fn field_fits(p: Head, x: Field, file: usize, text: usize, ends: usize, rows: us
 
 // So much of a length as 32 bits can number.
 fn numbered(length: usize) -> usize
-    ensures { λ r. ⌜ r ≡ min length 4294967295 ⌝ }
+    ensures { λ r. ⌜ r ≡ min length largest32 ⌝ }
 {
-    if length < 4294967295 {
+    if length < runs::LARGEST_32 {
         length
     } else {
-        4294967295
+        runs::LARGEST_32
     }
 }
 
 // Whether the entries of a field fit, its end apart.
 fn entry_fits(p: Head, row: bool, ends: usize, rows: usize) -> bool
-    ensures { λ r. ⌜ r ≡ (ltb (p .ends) (min ends 4294967295) && (not row || ltb (p .rows) rows)) ⌝ }
+    ensures { λ r. ⌜ r ≡ (ltb (p .ends) (min ends largest32) && (not row || ltb (p .rows) rows)) ⌝ }
 {
     (p.ends < numbered(ends)) & (!row | (p.rows < rows))
 }
@@ -183,7 +184,10 @@ fn entry_fits(p: Head, row: bool, ends: usize, rows: usize) -> bool
 fn end_fits(p: Head, n: usize, row: bool, ends: usize, rows: usize) -> bool
     ensures { λ r. ⌜ r ≡ endFits p n row ends rows ⌝ }
 {
-    (p.ends < ends) & (n <= 4294967295) & (p.ends < 4294967295) & (!row | (p.rows < rows))
+    (p.ends < ends)
+        & (n <= runs::LARGEST_32)
+        & (p.ends < runs::LARGEST_32)
+        & (!row | (p.rows < rows))
 }
 
 // Writes the end of a field whose content is written already, and the row where it ends a record. The
@@ -217,12 +221,12 @@ fn write_end(p: Head, n: usize, row: bool, ends: &mut [u32], rows: &mut [u32])
 
 // The walk at the start of the next field.
 fn next_field(p: Head, next: usize, row: bool, n: usize) -> Head
-    requires { ⌜ (p .ends < 4294967295) × (p .rows + cond row 1 0 ≤ 18446744073709551615) ⌝ }
+    requires { ⌜ (p .ends < largest32) × (p .rows + cond row 1 0 ≤ 18446744073709551615) ⌝ }
     ensures { λ r. ⌜ r ≡ behind p next row n ⌝ }
 {
     Head {
         at: next,
-        form: 0,
+        form: steps::START,
         held: 0,
         text: n,
         ends: p.ends + 1,

@@ -25,6 +25,7 @@ use Rattle.fill.proofs.Copy.{two-at}
 use Rattle.format.proofs.Classes.{quote-beside, LF-inside}
 use Rattle.steps.proofs.Rules.{form-back}
 use Rattle.steps.proofs.Acts.{inside-puts, quote-shuts, quote-pairs}
+use Rattle.steps.specs.Numbers.{formNumber}
 
 -- a byte that is content between quotes in every dialect
 abbrev pub Puts : ℕ → Type 0
@@ -186,7 +187,7 @@ module _ (f t : Bytes) (i n : ℕ) (v : i < length f) where
   inside-copied k l false e = let z : i + (n - n) ≡ i = omega arith in rw z stays
 
 -- from a head between quotes
-module _ (d : Dialect) (f : Bytes) (p : Head) (text ends rows : List ℕ) (v : p .at < length f) (e₁ : p .form ≡ 3) (e₂ : p .held ≡ 0) (o : NoQuote d) where
+module _ (d : Dialect) (f : Bytes) (p : Head) (text ends rows : List ℕ) (v : p .at < length f) (e₁ : p .form ≡ formNumber quoted) (e₂ : p .held ≡ 0) (o : NoQuote d) where
   ends-any : (u : Bool) (n : ℕ) → endsLeft d (drop (p .at) f) quoted 0 n u ≡ endsLeft d (drop (p .at) f) quoted 0 n true
   ends-any u n = rw (drop-cons f (p .at) 0 v) (ends-byte d (getD f (p .at) 0) _ quoted 0 n u ∙ sym (ends-byte d (getD f (p .at) 0) _ quoted 0 n true))
 

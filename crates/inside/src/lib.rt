@@ -5,6 +5,8 @@ ghost use Prim.Native.Nat.{ℕ, _<_};
 ghost use mathlib.Core.List.{List};
 ghost use lib.ListN.{length};
 ghost use Rattle.format.specs.Dialect.{Dialect};
+ghost use Rattle.steps.specs.Steps.{quoted};
+ghost use Rattle.steps.specs.Numbers.{formNumber};
 ghost use Rattle.fill.specs.Walk.{Wrote, NoQuote, Inside, between};
 use fill::Head;
 
@@ -37,9 +39,9 @@ pub fn pass_inside(file: &[u8], p: Head, text: &mut [u8]) -> Head
 
 // Whether the walk is between quotes, before a byte.
 fn is_inside(p: Head, end: usize) -> bool
-    ensures { λ r. ⌜ (r ≡ true → (p .form ≡ 3) × (p .held ≡ 0) × (p .at < end)) ⌝ }
+    ensures { λ r. ⌜ (r ≡ true → (p .form ≡ formNumber quoted) × (p .held ≡ 0) × (p .at < end)) ⌝ }
 {
-    (p.form == 3) & (p.held == 0) & (p.at < end)
+    (p.form == steps::QUOTED) & (p.held == 0) & (p.at < end)
 }
 
 // What stands at a place between quotes: pairs of quotes, an LF or a run of bytes. Where it is none of
@@ -79,7 +81,7 @@ fn quoted_at(p: Head, at: usize, text: usize) -> Head
     let begun = true;
     Head {
         at,
-        form: 3,
+        form: steps::QUOTED,
         held: 0,
         text,
         ends: p.ends,

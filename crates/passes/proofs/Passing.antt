@@ -7,6 +7,8 @@ use lib.ListN.{length, drop, length-drop}
 use Rattle.format.specs.Table.{Bytes}
 use Rattle.format.specs.Dialect.{dialect}
 use Rattle.format.specs.Place.{lineFeeds, sinceLf}
+use Rattle.steps.specs.Steps.{bare, quoted}
+use Rattle.steps.specs.Numbers.{formNumber}
 use Rattle.runs.specs.Runs.{run, isPlain}
 use Rattle.runs.proofs.Runs.{run-le}
 use Rattle.places.specs.Counters.{counterLimit, along, spot}
@@ -34,7 +36,7 @@ walked-leads c s i x h = record { on = omega (arith, h .on, h .line, h .from); w
 
 module _ (c : Check) (s : Bytes) (i : ℕ) (inside : i ≤ length s) where
   -- content between quotes
-  pub inside-leads : (r : Inside) → BetweenFrom s i r → Settled c → Leads c s i (record { at = r .end; check = jumped 3 (spot (r .lines) (r .tail) (r .end - i) (c .here)) (r .content) c })
+  pub inside-leads : (r : Inside) → BetweenFrom s i r → Settled c → Leads c s i (record { at = r .end; check = jumped (formNumber quoted) (spot (r .lines) (r .tail) (r .end - i) (c .here)) (r .content) c })
   inside-leads r w q = let b = w .between inside in record { on = b .on; within = λ h. b .within; same = b .same c q }
 
   -- plain text
@@ -42,8 +44,8 @@ module _ (c : Check) (s : Bytes) (i : ℕ) (inside : i ≤ length s) where
   text-within P k e = omega (arith, run-le P (drop i s), length-drop i s)
 
   pub text-leads :
-      (k : ℕ) → (k ≡ 0 → ⊥) → c .refusal ≡ 0 → c .form ≤ 2 → k ≡ run (isPlain (dialect (c .delimiter) (c .leniencies))) (drop i s)
-      → Leads c s i (record { at = i + k; check = jumped 2 (along k (c .here)) k c })
+      (k : ℕ) → (k ≡ 0 → ⊥) → c .refusal ≡ 0 → c .form ≤ formNumber bare → k ≡ run (isPlain (dialect (c .delimiter) (c .leniencies))) (drop i s)
+      → Leads c s i (record { at = i + k; check = jumped (formNumber bare) (along k (c .here)) k c })
   text-leads k some r f e =
       let more : 0 < k = omega arith in
       record { on = omega arith; within = λ h. text-within _ k e; same = text-leap s i k c more r f (omega arith) }

@@ -7,6 +7,8 @@ ghost use Prim.Native.Nat.{_≤_};
 ghost use lib.ListN.{length};
 ghost use mathlib.Core.Bool.{true};
 ghost use mathlib.Core.Path.{_≡_};
+ghost use Rattle.steps.specs.Steps.{bare, quoted};
+ghost use Rattle.steps.specs.Numbers.{formNumber};
 ghost use Rattle.places.specs.Counters.{counterLimit};
 ghost use Rattle.state.specs.Settled.{Settled};
 ghost use Rattle.spans.specs.Walk.{opening, begun, texted, walked};
@@ -34,10 +36,10 @@ pub fn passed(check: Check, s: &[u8], at: usize) -> Reached
     if check.refusal != 0 {
         return pass_refused(check, s, at);
     }
-    if check.form == 3 {
+    if check.form == steps::QUOTED {
         return pass_inside(check, s, at);
     }
-    if 3 < check.form {
+    if steps::QUOTED < check.form {
         return Reached { at, check };
     }
     let r = pass_rows(check, s, at);
@@ -83,7 +85,7 @@ fn is_before_stop(p: Place) -> bool
 // Passes plain text outside quotes.
 fn pass_text(check: Check, s: &[u8], at: usize) -> Reached
     requires { ⌜ at ≤ length (now s) ⌝ }
-    requires { ⌜ (check .refusal ≡ 0) × (check .form ≤ 2) ⌝ }
+    requires { ⌜ (check .refusal ≡ 0) × (check .form ≤ formNumber bare) ⌝ }
     ensures { λ r. ⌜ Leads check (now (s .entry)) at r ⌝ }
 {
     let k = runs::text_run(check.delimiter, check.leniencies, s, at);
@@ -91,7 +93,7 @@ fn pass_text(check: Check, s: &[u8], at: usize) -> Reached
         return Reached { at, check };
     }
     let here = check.here;
-    let next = check.jumped(2, places::along(k, here), k);
+    let next = check.jumped(steps::BARE, places::along(k, here), k);
     Reached {
         at: at + k,
         check: next,
@@ -101,7 +103,7 @@ fn pass_text(check: Check, s: &[u8], at: usize) -> Reached
 // Passes content between quotes.
 fn pass_inside(check: Check, s: &[u8], at: usize) -> Reached
     requires { ⌜ at ≤ length (now s) ⌝ }
-    requires { ⌜ (check .refusal ≡ 0) × (check .form ≡ 3) ⌝ }
+    requires { ⌜ (check .refusal ≡ 0) × (check .form ≡ formNumber quoted) ⌝ }
     ensures { λ r. ⌜ Leads check (now (s .entry)) at r ⌝ }
 {
     if !is_settled(check) {
@@ -113,13 +115,13 @@ fn pass_inside(check: Check, s: &[u8], at: usize) -> Reached
     let p = places::spot(q.lines, q.tail, end - at, here);
     Reached {
         at: end,
-        check: check.jumped(3, p, q.content),
+        check: check.jumped(steps::QUOTED, p, q.content),
     }
 }
 
 // Whether content between quotes is one jump from here.
 fn is_settled(check: Check) -> bool
-    ensures { λ r. ⌜ (r ≡ true → check .refusal ≡ 0 → check .form ≡ 3 → Settled check) ⌝ }
+    ensures { λ r. ⌜ (r ≡ true → check .refusal ≡ 0 → check .form ≡ formNumber quoted → Settled check) ⌝ }
 {
     if check.delimiter == 0x22 {
         return false;
@@ -165,7 +167,7 @@ fn texted(check: Check, m: usize) -> Check
         return check;
     }
     let here = check.here;
-    check.jumped(2, places::along(m, here), m)
+    check.jumped(steps::BARE, places::along(m, here), m)
 }
 
 // Where the field in work begins: where the walk does, while no field is closed.
@@ -203,7 +205,7 @@ fn opening(check: Check, x: Walk, at: usize) -> Check
     let begun = if x.number == 0 { 0 } else { 1 };
     let anchor = places::nowhere();
     let mut c = check;
-    c.form = 0;
+    c.form = steps::START;
     c.begun = begun;
     c.here = p;
     c.anchor = anchor;

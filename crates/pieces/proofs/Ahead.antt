@@ -84,7 +84,7 @@ module _ {z : Source} {s : Bytes} {r : Running} (at : At z s [] r) where
       by :
           (u : Bool) (k : Form) → Anchored (z .file) k (p .anchor) (r .anchor)
           → cond (not (eqb (num u) 0))
-          (cond (eqb (formNumber k) 3) (refusedBy 8 (r .anchor)) (cond (leb 6 (formNumber k)) (refusedBy 6 (r .anchor)) cutRecord))
+          (cond (eqb (formNumber k) (formNumber quoted)) (refusedBy 8 (r .anchor)) (cond (leb (formNumber cr) (formNumber k)) (refusedBy 6 (r .anchor)) cutRecord))
           (settledAnswer (going z [] r))
           ≡ answer (z .file) (r .wide) (cond u (lastly (dialectOf z) k p) (closed (p .work .account)))
       by false = λ k i. settled-going z [] r

@@ -9,6 +9,8 @@ use Rattle.format.specs.Dialect.{lf, blanks, ragged, bytes, bitOf}
 use Rattle.format.specs.House.{fileLimit}
 use Rattle.format.specs.Place.{place}
 use Rattle.steps.specs.Model.{isValid}
+use Rattle.steps.specs.Steps.{quoted, cr}
+use Rattle.steps.specs.Numbers.{formNumber}
 use Rattle.state.specs.declared.Check.{Check}
 use Rattle.state.specs.Check.{recordEnded}
 
@@ -37,8 +39,8 @@ isOpen c = eqb (c .refusal) 0 && not (eqb (c .begun) 0)
 -- the answer if the file ends in an open record
 abbrev pub cut : Check → Answer
 cut c =
-    cond (eqb (c .form) 3) (refusedBy 8 (c .anchor))
-    (cond (leb 6 (c .form)) (refusedBy 6 (c .anchor)) (settledAnswer (recordEnded (c .used) (c .here) (c .here) false c)))
+    cond (eqb (c .form) (formNumber quoted)) (refusedBy 8 (c .anchor))
+    (cond (leb (formNumber cr) (c .form)) (refusedBy 6 (c .anchor)) (settledAnswer (recordEnded (c .used) (c .here) (c .here) false c)))
 
 -- the answer as if the file ended here
 unfoldable pub asked : Check → Answer

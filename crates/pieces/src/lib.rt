@@ -6,6 +6,8 @@ ghost use mathlib.Core.Bool.{true};
 ghost use mathlib.Core.Path.{_≡_};
 ghost use Rattle.format.specs.Place.{place};
 ghost use Rattle.format.specs.Answer.{refusedBy};
+ghost use Rattle.steps.specs.Steps.{start, shut};
+ghost use Rattle.steps.specs.Numbers.{formNumber};
 ghost use Rattle.places.specs.Counters.{along};
 ghost use Rattle.state.specs.Check.{entered, placed, fed, jumped};
 ghost use Rattle.pieces.specs.Asked.{bitIf, totalled, settledAnswer};
@@ -51,7 +53,7 @@ pub fn start(delimiter: u8, leniencies: u8) -> Check
         delimiter,
         leniencies,
         refusal: 0,
-        form: 0,
+        form: steps::START,
         begun: 0,
         used,
         here,
@@ -110,10 +112,10 @@ pub fn ask(check: Check) -> Answer
         return settled(check);
     }
     let anchor = check.anchor;
-    if check.form == 3 {
+    if check.form == steps::QUOTED {
         return refused_by(8, anchor);
     }
-    if 6 <= check.form {
+    if steps::AFTER_CR <= check.form {
         return refused_by(6, anchor);
     }
     let used = check.used;
@@ -150,37 +152,37 @@ fn taken(check: Check, b: u8) -> Check
         return check.placed(next);
     }
     let k = jump_form(check, b);
-    if k != 0 {
+    if k != steps::START {
         return check.jumped(k, places::along(1, here), 1);
     }
-    if is_quote(check, 3, b) {
+    if is_quote(check, steps::QUOTED, b) {
         return shut(check);
     }
     check.take(b)
 }
 
 // The form that b jumps to: as plain text outside quotes, or as content between them, which the second
-// quote of a pair is; 0 where it is neither.
+// quote of a pair is; start, which no byte jumps to, where it is neither.
 fn jump_form(check: Check, b: u8) -> u8
     requires { ⌜ check .refusal ≡ 0 ⌝ }
-    ensures { λ r. ⌜ ((r ≡ 0 → ⊥) → fed check b ≡ jumped r (along 1 (check .here)) 1 check) ⌝ }
+    ensures { λ r. ⌜ ((r ≡ formNumber start → ⊥) → fed check b ≡ jumped r (along 1 (check .here)) 1 check) ⌝ }
 {
-    if check.form == 3 {
+    if check.form == steps::QUOTED {
         if runs::is_inner(b) {
-            return 3;
+            return steps::QUOTED;
         }
-        return 0;
+        return steps::START;
     }
-    if 3 < check.form {
-        if is_quote(check, 4, b) {
-            return 3;
+    if steps::QUOTED < check.form {
+        if is_quote(check, steps::SHUT, b) {
+            return steps::QUOTED;
         }
-        return 0;
+        return steps::START;
     }
     if runs::is_plain(check.delimiter, check.leniencies, b) {
-        return 2;
+        return steps::BARE;
     }
-    0
+    steps::START
 }
 
 // Whether b is a quote, not the delimiter, in form k.
@@ -198,12 +200,12 @@ fn is_quote(check: Check, k: u8, b: u8) -> bool
 
 // The state behind a quote that may close the field, or be the first of a pair.
 fn shut(check: Check) -> Check
-    ensures { λ r. ⌜ r ≡ placed (along 1 (check .here)) (entered 4 (check .anchor) (check .used) (check .field) check) ⌝ }
+    ensures { λ r. ⌜ r ≡ placed (along 1 (check .here)) (entered (formNumber shut) (check .anchor) (check .used) (check .field) check) ⌝ }
 {
     let here = check.here;
     let next = places::along(1, here);
     let mut c = check;
-    c.form = 4;
+    c.form = steps::SHUT;
     c.begun = 1;
     c.here = next;
     c

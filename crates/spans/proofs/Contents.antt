@@ -10,7 +10,8 @@ use Rattle.format.specs.declared.Place.{Place}
 use Rattle.format.specs.Table.{Bytes}
 use Rattle.format.specs.Dialect.{dialect}
 use Rattle.format.specs.House.{contentLimit}
-use Rattle.steps.specs.Steps.{start, bare, shut}
+use Rattle.steps.specs.Steps.{start, bare, quoted, shut}
+use Rattle.steps.specs.Numbers.{formNumber}
 use Rattle.runs.specs.Runs.{run, isPlain}
 use Rattle.state.specs.declared.Check.{Check}
 use Rattle.spans.specs.declared.Walk.{Walk}
@@ -33,11 +34,11 @@ at-start c s a x w = go (eqb (x .fields) 0) refl
     go false e = opened-some c a x (w .line) (let q = w .line in omega (arith, w .on))
 
 -- m bytes of text behind it
-texted-some : (m : ℕ) (e : Check) → texted (suc m) e ≡ jumped 2 (along (suc m) (e .here)) (suc m) e
+texted-some : (m : ℕ) (e : Check) → texted (suc m) e ≡ jumped (formNumber bare) (along (suc m) (e .here)) (suc m) e
 texted-some m e = rw (eqb·suc-zero m)
 
 pub texted-leads :
-    (e : Check) (s : Bytes) (i m : ℕ) → e .refusal ≡ 0 → e .form ≡ 0 → m ≤ run (isPlain (dialect (e .delimiter) (e .leniencies))) (drop i s)
+    (e : Check) (s : Bytes) (i m : ℕ) → e .refusal ≡ 0 → e .form ≡ formNumber start → m ≤ run (isPlain (dialect (e .delimiter) (e .leniencies))) (drop i s)
     → fedAll (texted m e) (drop (i + m) s) ≡ fedAll e (drop i s)
 texted-leads e s i zero r f h = let z : i + 0 ≡ i = omega arith in rw z
 texted-leads e s i (suc m) r f h =
@@ -57,7 +58,7 @@ module _ (c : Check) (a : ℕ) (x : Walk) (e : Check) (o : Opened c a x e) (calm
       whole n k e₁ e₂ = omega arith
 
   -- a bare field ends
-  jump-ended : (m : ℕ) → suc m ≤ contentLimit → Ended c a x (jumped 2 (along (suc m) (e .here)) (suc m) e) (stopAt (x .start + suc m) (suc m) (x .line) (x .lines))
+  jump-ended : (m : ℕ) → suc m ≤ contentLimit → Ended c a x (jumped (formNumber bare) (along (suc m) (e .here)) (suc m) e) (stopAt (x .start + suc m) (suc m) (x .line) (x .lines))
   jump-ended m l =
       rw jumped-is
       (record {
@@ -107,7 +108,7 @@ module _ (c : Check) (a : ℕ) (x : Walk) (e : Check) (o : Opened c a x e) (calm
           delimiter = e .delimiter;
           leniencies = e .leniencies;
           refusal = e .refusal;
-          form = 3;
+          form = formNumber quoted;
           begun = 1;
           used = e .used;
           here = along 1 (e .here);
@@ -121,7 +122,7 @@ module _ (c : Check) (a : ℕ) (x : Walk) (e : Check) (o : Opened c a x e) (calm
 
     pub opens-quote : fed e 0x22 ≡ within-quotes
     unfolding within-quotes
-    opens-quote = quote-opened e quiet (o .form) no-quote ∙ entered-is (along 1 (e .here)) 3 (e .here) (e .used) (e .field) e
+    opens-quote = quote-opened e quiet (o .form) no-quote ∙ entered-is (along 1 (e .here)) (formNumber quoted) (e .here) (e .used) (e .field) e
 
     pub within-settled : Settled within-quotes
     unfolding within-quotes
@@ -148,7 +149,7 @@ module _ (c : Check) (a : ℕ) (x : Walk) (e : Check) (o : Opened c a x e) (calm
             delimiter = e .delimiter;
             leniencies = e .leniencies;
             refusal = e .refusal;
-            form = 3;
+            form = formNumber quoted;
             begun = 1;
             used = e .used;
             here = spot l t n (along 1 (e .here));
@@ -157,7 +158,7 @@ module _ (c : Check) (a : ℕ) (x : Walk) (e : Check) (o : Opened c a x e) (calm
             counts = e .counts;
           }
 
-      pub content-is : jumped 3 (spot l t n (within-quotes .here)) m within-quotes ≡ content-read
+      pub content-is : jumped (formNumber quoted) (spot l t n (within-quotes .here)) m within-quotes ≡ content-read
       unfolding content-read within-quotes
       content-is = jumped-is 3 (spot l t n (along 1 (e .here))) m within-quotes
 

@@ -8,6 +8,7 @@ use borrow.Author.Tests.{ne-eqb}
 use Rattle.format.specs.declared.Place.{Place}
 use Rattle.format.specs.Table.{Bytes}
 use Rattle.steps.specs.Steps.{Form, start}
+use Rattle.steps.specs.Numbers.{formNumber}
 use Rattle.state.specs.declared.Check.{Check}
 use Rattle.state.specs.declared.Used.{Used}
 use Rattle.spans.specs.declared.Walk.{Walk}
@@ -21,7 +22,7 @@ use Rattle.state.proofs.Closing.{opened-from, Ending, field-closed, row-closed}
 -- what is known of the state e at the start of the field in work of the walk x from the state c at a
 pub record Opened (c : Check) (a : ℕ) (x : Walk) (e : Check) : Type 0 where
   pub refusal : e .refusal ≡ c .refusal
-  pub form : e .form ≡ 0
+  pub form : e .form ≡ formNumber start
   pub content : e .field .content ≡ 0
   pub held : e .field .held ≡ 0
   pub delimiter : e .delimiter ≡ c .delimiter

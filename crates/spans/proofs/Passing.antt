@@ -12,6 +12,7 @@ use Rattle.format.specs.House.{contentLimit}
 use Rattle.steps.specs.Steps.{start}
 use Rattle.runs.specs.Runs.{run, isPlain, isBreak}
 use Rattle.runs.proofs.Runs.{run-join, run-within, BreakAt, break-at}
+use Rattle.runs.specs.Words.{largest32}
 use Rattle.state.specs.declared.Check.{Check}
 use Rattle.spans.specs.declared.Inside.{Inside}
 use Rattle.spans.specs.declared.Walk.{Walk}
@@ -231,7 +232,7 @@ module _ (c : Check) (s : Bytes) (a : ℕ) (x : Walk) (w : Walking c s a x) wher
 
 -- nothing passed yet
 pub walking-start :
-    (c : Check) (s : Bytes) (a : ℕ) → Level c s → c .field .number .0 ≤ 4294967295 → a ≤ length s
+    (c : Check) (s : Bytes) (a : ℕ) → Level c s → c .field .number .0 ≤ largest32 → a ≤ length s
     → Walking c s a (record { at = a; line = a; lines = 0; start = a; rows = 0; fields = 0; number = c .field .number .0; text = 0 })
 walking-start c s a l n h =
     record {

@@ -8,6 +8,8 @@ use lib.ListN.{length, getD, take, drop, length-take, length-drop, take-append-d
 use lib.Seq.{drop-drop, drop-append-le}
 use lib.Count.{trailingZeros}
 use Rattle.format.specs.Table.{Bytes}
+use Rattle.steps.specs.Steps.{quoted}
+use Rattle.steps.specs.Numbers.{formNumber}
 use Rattle.runs.specs.Runs.{run, isInner, pairs}
 use Rattle.runs.specs.Words.{word, Marks}
 use Rattle.runs.proofs.Runs.{run-add, run-within, pairs-le}
@@ -29,8 +31,8 @@ between-start s at h =
 -- any two lead to the same
 pub one-inside :
     (s : Bytes) (at : ℕ) (x y : Inside) → BetweenFrom s at x → BetweenFrom s at y → at ≤ length s → (c : Check) → Settled c
-    → fedAll (jumped 3 (spot (x .lines) (x .tail) (x .end - at) (c .here)) (x .content) c) (drop (x .end) s)
-    ≡ fedAll (jumped 3 (spot (y .lines) (y .tail) (y .end - at) (c .here)) (y .content) c) (drop (y .end) s)
+    → fedAll (jumped (formNumber quoted) (spot (x .lines) (x .tail) (x .end - at) (c .here)) (x .content) c) (drop (x .end) s)
+    ≡ fedAll (jumped (formNumber quoted) (spot (y .lines) (y .tail) (y .end - at) (c .here)) (y .content) c) (drop (y .end) s)
 one-inside s at x y g h i c q = g .between i .same c q ∙ sym (h .between i .same c q)
 
 -- such bytes of a part are such bytes of the whole
@@ -52,7 +54,7 @@ module _ (s : Bytes) (n at : ℕ) (r : Inside) (g : Between (take n s) at r) whe
         flat = g .flat;
         same =
             λ c h.
-            further-in (jumped 3 (spot (r .lines) (r .tail) (r .end - at) (c .here)) (r .content) c) (r .end) (g .within)
+            further-in (jumped (formNumber quoted) (spot (r .lines) (r .tail) (r .end - at) (c .here)) (r .content) c) (r .end) (g .within)
             ∙ ap (λ (x : Check). fedAll x (drop n s)) (g .same c h)
             ∙ sym (further-in c at (omega (arith, g .on, g .within)));
       }

@@ -9,7 +9,7 @@ use lib.ListN.{length, getD}
 use Rattle.format.specs.Table.{Bytes}
 use Rattle.format.specs.Dialect.{dialect}
 use Rattle.runs.specs.Runs.{isPlain}
-use Rattle.runs.specs.Words.{Stops}
+use Rattle.runs.specs.Words.{Stops, largest32}
 use Rattle.runs.proofs.Words.{Marked, marked-on, marked-none, marked-some}
 use Rattle.state.specs.declared.Check.{Check}
 use Rattle.spans.specs.declared.Walk.{Walk}
@@ -38,7 +38,7 @@ pub record Mark (c : Check) (s : Bytes) (a : ℕ) (x : Walk) (k : ℕ) : Type 0 
   pub walking : Walking c s a (placedAt x (x .at + k))
   pub low : k < 64
   pub inside : x .at + k < length s
-  pub short : length s ≤ 4294967295
+  pub short : length s ≤ largest32
 
 module _ (c : Check) (t : List Bool) (s : Bytes) (a : ℕ) (x : Walk) (e w : ℕ) (r : Reading c t s a x e w) where
   pub first-mark : (w ≡ 0 → ⊥) → Mark c s a x (trailingZeros 64 w)

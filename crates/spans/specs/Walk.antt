@@ -8,7 +8,10 @@ use Rattle.format.specs.declared.Place.{Place}
 use Rattle.format.specs.Table.{Bytes}
 use Rattle.format.specs.Dialect.{dialect}
 use Rattle.format.specs.House.{contentLimit}
+use Rattle.steps.specs.Steps.{start, bare, quoted}
+use Rattle.steps.specs.Numbers.{formNumber}
 use Rattle.runs.specs.Runs.{run, isPlain, isBreak}
+use Rattle.runs.specs.Words.{largest32}
 use Rattle.places.specs.Counters.{counterLimit, plus, along, spot}
 use Rattle.state.specs.declared.Check.{Check}
 use Rattle.state.specs.declared.Counts.{Counts}
@@ -25,7 +28,7 @@ pub record Between (s : Bytes) (at : ℕ) (r : Inside) : Type 0 where
   pub lines : at + r .lines ≤ r .end
   pub tail : at + r .tail ≤ r .end
   pub flat : r .lines ≡ 0 → at + r .tail ≡ r .end
-  pub same : (c : Check) → Settled c → fedAll (jumped 3 (spot (r .lines) (r .tail) (r .end - at) (c .here)) (r .content) c) (drop (r .end) s) ≡ fedAll c (drop at s)
+  pub same : (c : Check) → Settled c → fedAll (jumped (formNumber quoted) (spot (r .lines) (r .tail) (r .end - at) (c .here)) (r .content) c) (drop (r .end) s) ≡ fedAll c (drop at s)
 
 -- such bytes from any place on: behind the end none
 pub record BetweenFrom (s : Bytes) (at : ℕ) (r : Inside) : Type 0 where
@@ -52,9 +55,9 @@ pub record Closed (s : Bytes) (r : Inside) : Type 0 where
 
 -- at the start of a field, with the counters that a walk may leave alone before their stop, in a piece whose length cannot carry a count over
 pub record Level (c : Check) (s : Bytes) : Type 0 where
-  pub short : length s ≤ 4294967295
+  pub short : length s ≤ largest32
   pub refusal : c .refusal ≡ 0
-  pub form : c .form ≡ 0
+  pub form : c .form ≡ formNumber start
   pub content : c .field .content ≡ 0
   pub held : c .field .held ≡ 0
   pub no-cr : c .delimiter ≡ 0x0D → ⊥
@@ -115,7 +118,7 @@ begun x a c = cond (eqb (x .fields) 0) c (opening x a c)
 
 -- m bytes of text further on
 abbrev pub texted : ℕ → Check → Check
-texted m c = cond (eqb m 0) c (jumped 2 (along m (c .here)) m c)
+texted m c = cond (eqb m 0) c (jumped (formNumber bare) (along m (c .here)) m c)
 
 unfoldable pub walked : Walk → ℕ → Check → Check
 walked x a c = texted (x .at - x .start) (begun x a c)
@@ -123,13 +126,13 @@ walked x a c = texted (x .at - x .start) (begun x a c)
 -- a walk at a byte of s, with counts that the byte's place bounds
 pub record Sized (x : Walk) (s : Bytes) : Type 0 where
   pub inside : x .at < length s
-  pub short : length s ≤ 4294967295
+  pub short : length s ≤ largest32
   pub from : x .start ≤ x .at
   pub line : x .line ≤ x .start
   pub lines : x .lines ≤ x .start
   pub closed : x .fields + x .rows ≤ x .start
   pub text : x .text ≤ x .start
-  pub number : x .number ≤ 4294967295 + x .start
+  pub number : x .number ≤ largest32 + x .start
 
 -- nothing closed yet
 pub record Unmoved (c : Check) (a : ℕ) (x : Walk) : Type 0 where
@@ -150,7 +153,7 @@ pub record Walking (c : Check) (s : Bytes) (a : ℕ) (x : Walk) : Type 0 where
   pub lines : x .lines ≤ x .start
   pub closed : x .fields + x .rows ≤ x .start
   pub text : x .text ≤ x .start
-  pub number : x .number ≤ 4294967295 + x .start
+  pub number : x .number ≤ largest32 + x .start
   pub unmoved : x .fields ≡ 0 → Unmoved c a x
   pub plain : x .at - x .start ≤ run (isPlain (dialect (c .delimiter) (c .leniencies))) (drop (x .start) s)
   pub same : fedAll (begun x a c) (drop (x .start) s) ≡ fedAll c (drop a s)

@@ -6,7 +6,7 @@ ghost use Prim.Native.Nat.{_+_, _≤_, _<_};
 ghost use mathlib.Core.Bool.{true};
 ghost use mathlib.Core.Path.{_≡_};
 ghost use Rattle.format.specs.Dialect.{dialect};
-ghost use Rattle.runs.specs.Words.{Marks, Stops};
+ghost use Rattle.runs.specs.Words.{Marks, Stops, largest32};
 ghost use Rattle.spans.specs.Walk.{BetweenFrom, Between, runOn, Further, lastLine, Level, placedAt, fieldOn, rowOn, Closed, endAt, endedBy, Fits, Sized, Walking, Goes, Leading};
 ghost use lib.ListN.{length, getD};
 ghost use Rattle.runs.specs.Runs.{isInner};
@@ -70,7 +70,7 @@ pub fn rows(check: Check, s: &[u8], at: usize) -> Walk
 // A walk that has passed nothing yet.
 fn start_of(number: u32, at: usize) -> Walk
     ensures { λ r. ⌜ r ≡ record { at = at; line = at; lines = 0; start = at; rows = 0; fields = 0; number = number; text = 0 } ⌝ }
-    ensures { λ r. ⌜ number ≤ 4294967295 ⌝ }
+    ensures { λ r. ⌜ number ≤ largest32 ⌝ }
 {
     Walk {
         at,
@@ -89,13 +89,13 @@ fn start_of(number: u32, at: usize) -> Walk
 fn is_level(check: Check, s: &[u8]) -> bool
     ensures { λ r. ⌜ (r ≡ true → Level check (now (s .entry))) ⌝ }
 {
-    if 4294967295 < s.len() {
+    if runs::LARGEST_32 < s.len() {
         return false;
     }
     if check.refusal != 0 {
         return false;
     }
-    if check.form != 0 {
+    if check.form != steps::START {
         return false;
     }
     if check.field.content != 0 {

@@ -8,7 +8,7 @@ use Rattle.format.specs.declared.Place.{Place}
 use Rattle.format.specs.Dialect.{lf, ragged, names, dialect, isWide, delimiter, quote, CR, LF}
 use Rattle.format.specs.House.{contentLimit}
 use Rattle.format.proofs.Classes.{delimiter-at, quote-beside, CR-beside, LF-beside}
-use Rattle.steps.specs.Steps.{Form, start, cr}
+use Rattle.steps.specs.Steps.{Form, start, quoted, cr}
 use Rattle.steps.specs.Numbers.{formNumber}
 use Rattle.steps.proofs.Acts.{over, over-delimiter, over-CR, CR-LF, quote-opens}
 use Rattle.places.specs.Counters.{plus, moved, along}
@@ -60,7 +60,7 @@ module _ (g : Check) (k : Form) (h : Ending g k) where
 
   -- by a line break
   behind-cr : Check
-  behind-cr = placed (moved 0x0D (g .here)) (entered 6 (g .here) (g .used) (g .field) g)
+  behind-cr = placed (moved 0x0D (g .here)) (entered (formNumber cr) (g .here) (g .used) (g .field) g)
 
   cr-step : (g .delimiter ≡ 0x0D → ⊥) → fed g 0x0D ≡ behind-cr
   unfolding stepped behind-cr
@@ -95,7 +95,7 @@ module _ (g : Check) (k : Form) (h : Ending g k) where
 
 -- a quote at the start of a field opens it
 pub quote-opened :
-    (g : Check) → g .refusal ≡ 0 → g .form ≡ 0 → (g .delimiter ≡ 0x22 → ⊥)
-    → fed g 0x22 ≡ placed (along 1 (g .here)) (entered 3 (g .here) (g .used) (g .field) g)
+    (g : Check) → g .refusal ≡ 0 → g .form ≡ formNumber start → (g .delimiter ≡ 0x22 → ⊥)
+    → fed g 0x22 ≡ placed (along 1 (g .here)) (entered (formNumber quoted) (g .here) (g .used) (g .field) g)
 unfolding stepped
 quote-opened g r f d = rw (fed-is g 0x22 start quote r f (quote-beside (dialect (g .delimiter) (g .leniencies)) d), quote-opens (names (g .leniencies) lf), noted-none 0x22 g refl, moved-along 0x22 (g .here) refl)

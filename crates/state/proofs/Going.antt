@@ -17,6 +17,7 @@ use Rattle.format.proofs.Places.{place-first}
 use Rattle.steps.specs.Steps.{Form, start, lead, bare, quoted, shut, tail, cr, Out, nothing, put, hold, drop, field-end, record-end, Act, refuse, go, inQuotes, behindCr}
 use Rattle.steps.specs.Model.{anchor, seen, agrees}
 use Rattle.steps.specs.Numbers.{formNumber, coded}
+use Rattle.steps.proofs.Numbers.{behind-number}
 use Rattle.steps.proofs.Tallies.{Flags, Account, Work, widthFrom, even, Ans, stop, gives, fieldOn, recordOn, fieldUp, recordUp, field-up, record-up, agrees-even}
 use Rattle.steps.proofs.Forward.{Point, inside, opening, none, putOn, holdOn, dropOn, ended, acting, keeps, Fits}
 use Rattle.state.specs.declared.Used.{Used}
@@ -160,11 +161,8 @@ module _ {z : Source} {s g : Bytes} {r : Running} (at : At z s g r) (y : Bool) (
       (rw (even-is, noting-num l (a .flags .lf), noting-num (some (w .held)) (a .flags .blanks), noting-num (not (even (a .width) (suc (a .number)))) (a .flags .ragged), one-more, n, more-fields, more-text)))
 
 -- forms, by the code and by the model: the place of a break or a fault, and the anchor behind an act
-behind-is : (k : Form) → leb 6 (formNumber k) ≡ behindCr k
-behind-is = elim [ start ↦ refl | lead ↦ refl | bare ↦ refl | quoted ↦ refl | shut ↦ refl | tail ↦ refl | cr ↦ refl ]
-
 module _ (F here p : Bytes) (q : Place) where
-  seen-is : (k : Form) → Anchored F k p q → cond (leb 6 (formNumber k)) q (placeOf F here) ≡ placeOf F (seen k here p)
+  seen-is : (k : Form) → Anchored F k p q → cond (leb (formNumber cr) (formNumber k)) q (placeOf F here) ≡ placeOf F (seen k here p)
   seen-is = elim [ start ↦ λ i. refl | lead ↦ λ i. refl | bare ↦ λ i. refl | quoted ↦ λ i. refl | shut ↦ λ i. refl | tail ↦ λ i. refl | cr ↦ λ i. i ]
 
   quotes : (k : Form) → Anchored F k p q → cond (inQuotes k) q (placeOf F here) ≡ placeOf F (cond (inQuotes k) p here)
@@ -204,7 +202,7 @@ module _ {z : Source} {s : Bytes} {b : ℕ} {f : Bytes} {r : Running} (at : At z
   abbrev t : Point
   t = r .point
 
-  seen-here : cond (leb 6 (formNumber (t .form))) (r .anchor) (placeOf (z .file) (b ∷ f)) ≡ placeOf (z .file) (seen (t .form) (b ∷ f) (t .anchor))
+  seen-here : cond (leb (formNumber cr) (formNumber (t .form))) (r .anchor) (placeOf (z .file) (b ∷ f)) ≡ placeOf (z .file) (seen (t .form) (b ∷ f) (t .anchor))
   seen-here = seen-is (z .file) (b ∷ f) (t .anchor) (r .anchor) (t .form) (at .anchored)
 
   pub acted :
@@ -222,7 +220,7 @@ module _ {z : Source} {s : Bytes} {b : ℕ} {f : Bytes} {r : Running} (at : At z
       rw e
   acted (go j drop) = refl
   acted (go j field-end) = field-ended at (wideOn z b r) f
-  acted (go j record-end) = rw (seen-here, behind-is (t .form)) (record-ended at (wideOn z b r) f (seen (t .form) (b ∷ f) (t .anchor)) (not (behindCr (t .form))))
+  acted (go j record-end) = rw (seen-here, behind-number (t .form)) (record-ended at (wideOn z b r) f (seen (t .form) (b ∷ f) (t .anchor)) (not (behindCr (t .form))))
 
   next-at : (r′ : Running) → Anchored (z .file) (r′ .point .form) (r′ .point .anchor) (r′ .anchor) → CountersWithin (length s + 1) (r′ .point .work) → At z (s ++ (b ∷ [])) f r′
   next-at r′ i k = record { split = at .split ∙ sym (append-assoc s (b ∷ []) f); anchored = i; within = rw (length-append s (b ∷ [])) k }

@@ -12,11 +12,11 @@ use Rattle.format.specs.declared.Place.{Place}
 use Rattle.format.specs.Table.{Bytes}
 use Rattle.format.specs.Dialect.{lf, names, dialect, isWide, Class, text, quote, classOf}
 use Rattle.format.proofs.Classes.{quotedClass, quote-beside, LF-inside}
-use Rattle.steps.specs.Steps.{Form, quoted, shut, stepOf}
+use Rattle.steps.specs.Steps.{Form, bare, quoted, shut, stepOf}
 use Rattle.steps.specs.Numbers.{formNumber, formOf, coded}
 use Rattle.steps.proofs.Acts.{text-puts, inside-puts, quote-shuts, quote-pairs}
 use Rattle.steps.proofs.Numbers.{form-number}
-use Rattle.steps.proofs.Rules.{step-is}
+use Rattle.steps.proofs.Rules.{form-back}
 use Rattle.runs.specs.Runs.{run, isPlain, isInner, pairs}
 use Rattle.runs.proofs.Runs.{run-le, run-first, pairs-le, pairs-first}
 use Rattle.runs.proofs.Bytes.{plain-class, plain-narrow, plain-no-lf, inner-inside, inner-narrow, inner-no-lf}
@@ -45,12 +45,12 @@ pub fed-is :
     (c : Check) (b : ℕ) (k : Form) (x : Class) → c .refusal ≡ 0 → c .form ≡ formNumber k → classOf (dialect (c .delimiter) (c .leniencies)) b ≡ x
     → fed c b ≡ placed (moved b (c .here)) (stepped (coded (stepOf (names (c .leniencies) lf) k x)) (noted b c) (moved b (c .here)) c)
 unfolding fed
-fed-is c b k x r f e = rw (eq-eqb _ _ r, e, f, step-is)
+fed-is c b k x r f e = rw (eq-eqb _ _ r, e, f, form-back)
 
 -- a byte of plain text outside quotes
 text-step :
-    (c : Check) (b : ℕ) (k : Form) → c .refusal ≡ 0 → c .form ≡ formNumber k → leb (formNumber k) 2 ≡ true
-    → isPlain (dialect (c .delimiter) (c .leniencies)) b ≡ true → fed c b ≡ jumped 2 (moved b (c .here)) 1 c
+    (c : Check) (b : ℕ) (k : Form) → c .refusal ≡ 0 → c .form ≡ formNumber k → leb (formNumber k) (formNumber bare) ≡ true
+    → isPlain (dialect (c .delimiter) (c .leniencies)) b ≡ true → fed c b ≡ jumped (formNumber bare) (moved b (c .here)) 1 c
 unfolding stepped jumped
 text-step c b k r f l e =
     let d = dialect (c .delimiter) (c .leniencies) in
@@ -58,17 +58,17 @@ text-step c b k r f l e =
 
 -- a byte of content between quotes, whichever leniency allows it
 inside-step :
-    (c : Check) (b : ℕ) → c .refusal ≡ 0 → c .form ≡ 3 → quotedClass (classOf (dialect (c .delimiter) (c .leniencies)) b) ≡ true → isWide b ≡ false
-    → fed c b ≡ jumped 3 (moved b (c .here)) 1 c
+    (c : Check) (b : ℕ) → c .refusal ≡ 0 → c .form ≡ formNumber quoted → quotedClass (classOf (dialect (c .delimiter) (c .leniencies)) b) ≡ true → isWide b ≡ false
+    → fed c b ≡ jumped (formNumber quoted) (moved b (c .here)) 1 c
 unfolding stepped jumped
 inside-step c b r f i n =
     let x = classOf (dialect (c .delimiter) (c .leniencies)) b in
     rw (fed-is c b quoted x r f refl, inside-puts (names (c .leniencies) lf) x i, noted-none b c n)
 
-inner-step : (c : Check) (b : ℕ) → c .refusal ≡ 0 → c .form ≡ 3 → isInner b ≡ true → fed c b ≡ jumped 3 (moved b (c .here)) 1 c
+inner-step : (c : Check) (b : ℕ) → c .refusal ≡ 0 → c .form ≡ formNumber quoted → isInner b ≡ true → fed c b ≡ jumped (formNumber quoted) (moved b (c .here)) 1 c
 inner-step c b r f e = inside-step c b r f (inner-inside (dialect (c .delimiter) (c .leniencies)) b e) (inner-narrow b e)
 
-pub lf-step : (c : Check) → c .refusal ≡ 0 → c .form ≡ 3 → fed c 0x0A ≡ jumped 3 (moved 0x0A (c .here)) 1 c
+pub lf-step : (c : Check) → c .refusal ≡ 0 → c .form ≡ formNumber quoted → fed c 0x0A ≡ jumped (formNumber quoted) (moved 0x0A (c .here)) 1 c
 lf-step c r f = inside-step c 0x0A r f (LF-inside (dialect (c .delimiter) (c .leniencies))) refl
 
 -- two jumps are one
@@ -81,20 +81,20 @@ jump-jump j k p q m n c =
     rw e
 
 -- a quote that may be the first of a pair, and the second behind it
-pub shut-step : (c : Check) → c .refusal ≡ 0 → c .form ≡ 3 → (c .delimiter ≡ 0x22 → ⊥) → fed c 0x22 ≡ placed (along 1 (c .here)) (entered 4 (c .anchor) (c .used) (c .field) c)
+pub shut-step : (c : Check) → c .refusal ≡ 0 → c .form ≡ formNumber quoted → (c .delimiter ≡ 0x22 → ⊥) → fed c 0x22 ≡ placed (along 1 (c .here)) (entered (formNumber shut) (c .anchor) (c .used) (c .field) c)
 unfolding stepped
 shut-step c r f d =
     rw (fed-is c 0x22 quoted quote r f (quote-beside (dialect (c .delimiter) (c .leniencies)) d), quote-shuts (names (c .leniencies) lf), noted-none 0x22 c refl, moved-along 0x22 (c .here) refl)
 
-second-step : (c : Check) → c .refusal ≡ 0 → c .form ≡ 4 → (c .delimiter ≡ 0x22 → ⊥) → fed c 0x22 ≡ jumped 3 (along 1 (c .here)) 1 c
+second-step : (c : Check) → c .refusal ≡ 0 → c .form ≡ formNumber shut → (c .delimiter ≡ 0x22 → ⊥) → fed c 0x22 ≡ jumped (formNumber quoted) (along 1 (c .here)) 1 c
 unfolding stepped jumped
 second-step c r f d =
     rw (fed-is c 0x22 shut quote r f (quote-beside (dialect (c .delimiter) (c .leniencies)) d), quote-pairs (names (c .leniencies) lf), noted-none 0x22 c refl, moved-along 0x22 (c .here) refl)
 
-pair-step : (c : Check) → c .refusal ≡ 0 → c .form ≡ 3 → (c .delimiter ≡ 0x22 → ⊥) → fed (fed c 0x22) 0x22 ≡ jumped 3 (along 2 (c .here)) 1 c
+pair-step : (c : Check) → c .refusal ≡ 0 → c .form ≡ formNumber quoted → (c .delimiter ≡ 0x22 → ⊥) → fed (fed c 0x22) 0x22 ≡ jumped (formNumber quoted) (along 2 (c .here)) 1 c
 unfolding jumped entered placed
 pair-step c r f d =
-    let e = placed (along 1 (c .here)) (entered 4 (c .anchor) (c .used) (c .field) c) in
+    let e = placed (along 1 (c .here)) (entered (formNumber shut) (c .anchor) (c .used) (c .field) c) in
     let p : plus (plus (c .here .column .0) 1) 1 ≡ plus (c .here .column .0) 2 = omega arith in
     let q : plus (plus (c .here .byte .0) 1) 1 ≡ plus (c .here .byte .0) 2 = omega arith in
     rw (shut-step c r f d, second-step e r refl d, p, q)
@@ -133,50 +133,50 @@ module _
 -- text outside quotes
 record Outside (x sum : ℕ) (c : Check) : Type 0 where
   refusal : c .refusal ≡ 0
-  form : c .form ≤ 2
+  form : c .form ≤ formNumber bare
   delimiter : c .delimiter ≡ x
   leniencies : c .leniencies ≡ sum
 
 module _ (x sum : ℕ) where
   outside-step :
-      (c : Check) → Outside x sum c → (b : ℕ) → isPlain (dialect x sum) b ≡ true → fed c b ≡ jumped 2 (along 1 (c .here)) 1 c
+      (c : Check) → Outside x sum c → (b : ℕ) → isPlain (dialect x sum) b ≡ true → fed c b ≡ jumped (formNumber bare) (along 1 (c .here)) 1 c
   outside-step c o b e =
       let e′ : isPlain (dialect (c .delimiter) (c .leniencies)) b ≡ true = rw (o .delimiter, o .leniencies) e in
       let l = o .form in
       let f = form-number (c .form) (omega arith) in
       text-step c b (formOf (c .form)) (o .refusal) (sym f) (le-leb (formNumber (formOf (c .form))) 2 (omega (arith, f))) e′
-      ∙ ap (λ (p : Place). jumped 2 p 1 c) (moved-along b (c .here) (plain-no-lf (dialect x sum) b e))
+      ∙ ap (λ (p : Place). jumped (formNumber bare) p 1 c) (moved-along b (c .here) (plain-no-lf (dialect x sum) b e))
 
-  outside-keep : (c : Check) (p : Place) (m : ℕ) → Outside x sum c → Outside x sum (jumped 2 p m c)
+  outside-keep : (c : Check) (p : Place) (m : ℕ) → Outside x sum c → Outside x sum (jumped (formNumber bare) p m c)
   unfolding jumped placed entered
   outside-keep c p m o = record { refusal = o .refusal; form = omega arith; delimiter = o .delimiter; leniencies = o .leniencies }
 
 pub one-text :
-    (c : Check) (b : ℕ) → c .refusal ≡ 0 → c .form ≤ 2 → isPlain (dialect (c .delimiter) (c .leniencies)) b ≡ true → fed c b ≡ jumped 2 (along 1 (c .here)) 1 c
+    (c : Check) (b : ℕ) → c .refusal ≡ 0 → c .form ≤ formNumber bare → isPlain (dialect (c .delimiter) (c .leniencies)) b ≡ true → fed c b ≡ jumped (formNumber bare) (along 1 (c .here)) 1 c
 one-text c b r f e = outside-step (c .delimiter) (c .leniencies) c (record { refusal = r; form = f; delimiter = refl; leniencies = refl }) b e
 
 -- between quotes
 record Between (c : Check) : Type 0 where
   refusal : c .refusal ≡ 0
-  form : c .form ≡ 3
+  form : c .form ≡ formNumber quoted
 
-between-step : (c : Check) → Between c → (b : ℕ) → isInner b ≡ true → fed c b ≡ jumped 3 (along 1 (c .here)) 1 c
-between-step c o b e = inner-step c b (o .refusal) (o .form) e ∙ ap (λ (p : Place). jumped 3 p 1 c) (moved-along b (c .here) (inner-no-lf b e))
+between-step : (c : Check) → Between c → (b : ℕ) → isInner b ≡ true → fed c b ≡ jumped (formNumber quoted) (along 1 (c .here)) 1 c
+between-step c o b e = inner-step c b (o .refusal) (o .form) e ∙ ap (λ (p : Place). jumped (formNumber quoted) p 1 c) (moved-along b (c .here) (inner-no-lf b e))
 
-pub one-inner : (c : Check) (b : ℕ) → c .refusal ≡ 0 → c .form ≡ 3 → isInner b ≡ true → fed c b ≡ jumped 3 (along 1 (c .here)) 1 c
+pub one-inner : (c : Check) (b : ℕ) → c .refusal ≡ 0 → c .form ≡ formNumber quoted → isInner b ≡ true → fed c b ≡ jumped (formNumber quoted) (along 1 (c .here)) 1 c
 one-inner c b r f e = between-step c (record { refusal = r; form = f }) b e
 
-between-keep : (c : Check) (p : Place) (m : ℕ) → Between c → Between (jumped 3 p m c)
+between-keep : (c : Check) (p : Place) (m : ℕ) → Between c → Between (jumped (formNumber quoted) p m c)
 unfolding jumped placed entered
 between-keep c p m o = record { refusal = o .refusal; form = refl }
 
 -- a quote that may close the field, and the second of a pair, whatever number stands for it
 pub one-shut :
-    (c : Check) (b : ℕ) → c .refusal ≡ 0 → c .form ≡ 3 → b ≡ 0x22 → (c .delimiter ≡ 0x22 → ⊥)
-    → fed c b ≡ placed (along 1 (c .here)) (entered 4 (c .anchor) (c .used) (c .field) c)
+    (c : Check) (b : ℕ) → c .refusal ≡ 0 → c .form ≡ formNumber quoted → b ≡ 0x22 → (c .delimiter ≡ 0x22 → ⊥)
+    → fed c b ≡ placed (along 1 (c .here)) (entered (formNumber shut) (c .anchor) (c .used) (c .field) c)
 one-shut c b r f e d = rw e (shut-step c r f d)
 
-pub one-second : (c : Check) (b : ℕ) → c .refusal ≡ 0 → c .form ≡ 4 → b ≡ 0x22 → (c .delimiter ≡ 0x22 → ⊥) → fed c b ≡ jumped 3 (along 1 (c .here)) 1 c
+pub one-second : (c : Check) (b : ℕ) → c .refusal ≡ 0 → c .form ≡ formNumber shut → b ≡ 0x22 → (c .delimiter ≡ 0x22 → ⊥) → fed c b ≡ jumped (formNumber quoted) (along 1 (c .here)) 1 c
 one-second c b r f e d = rw e (second-step c r f d)
 
 -- behind a refusal a byte only moves the place
@@ -187,13 +187,13 @@ refused-step c b r = rw (ne-eqb _ _ r)
 -- the same from a place in a piece
 module _ (s : Bytes) (i k : ℕ) (c : Check) (some : 0 < k) where
   pub text-leap :
-      c .refusal ≡ 0 → c .form ≤ 2 → k ≤ run (isPlain (dialect (c .delimiter) (c .leniencies))) (drop i s)
-      → fedAll (jumped 2 (along k (c .here)) k c) (drop (i + k) s) ≡ fedAll c (drop i s)
+      c .refusal ≡ 0 → c .form ≤ formNumber bare → k ≤ run (isPlain (dialect (c .delimiter) (c .leniencies))) (drop i s)
+      → fedAll (jumped (formNumber bare) (along k (c .here)) k c) (drop (i + k) s) ≡ fedAll c (drop i s)
   text-leap r f h = go k some h
     where
       go :
           (k : ℕ) → 0 < k → k ≤ run (isPlain (dialect (c .delimiter) (c .leniencies))) (drop i s)
-          → fedAll (jumped 2 (along k (c .here)) k c) (drop (i + k) s) ≡ fedAll c (drop i s)
+          → fedAll (jumped (formNumber bare) (along k (c .here)) k c) (drop (i + k) s) ≡ fedAll c (drop i s)
       go zero l h = absurd (omega arith)
       go (suc k) l h =
           rw (← drop-drop (suc k) i s)
@@ -203,11 +203,11 @@ module _ (s : Bytes) (i k : ℕ) (c : Check) (some : 0 < k) where
           (record { refusal = r; form = f; delimiter = refl; leniencies = refl }) h))
 
   pub inner-leap :
-      c .refusal ≡ 0 → c .form ≡ 3 → k ≤ run isInner (drop i s)
-      → fedAll (jumped 3 (along k (c .here)) k c) (drop (i + k) s) ≡ fedAll c (drop i s)
+      c .refusal ≡ 0 → c .form ≡ formNumber quoted → k ≤ run isInner (drop i s)
+      → fedAll (jumped (formNumber quoted) (along k (c .here)) k c) (drop (i + k) s) ≡ fedAll c (drop i s)
   inner-leap r f h = go k some h
     where
-      go : (k : ℕ) → 0 < k → k ≤ run isInner (drop i s) → fedAll (jumped 3 (along k (c .here)) k c) (drop (i + k) s) ≡ fedAll c (drop i s)
+      go : (k : ℕ) → 0 < k → k ≤ run isInner (drop i s) → fedAll (jumped (formNumber quoted) (along k (c .here)) k c) (drop (i + k) s) ≡ fedAll c (drop i s)
       go zero l h = absurd (omega arith)
       go (suc k) l h =
           rw (← drop-drop (suc k) i s) (sym (leap 3 isInner Between between-step between-keep (drop i s) k c (record { refusal = r; form = f }) h))
@@ -215,10 +215,10 @@ module _ (s : Bytes) (i k : ℕ) (c : Check) (some : 0 < k) where
 -- pairs of quotes
 record Paired (x : ℕ) (c : Check) : Type 0 where
   refusal : c .refusal ≡ 0
-  form : c .form ≡ 3
+  form : c .form ≡ formNumber quoted
   delimiter : c .delimiter ≡ x
 
-paired-keep : (x : ℕ) (c : Check) (p : Place) (m : ℕ) → Paired x c → Paired x (jumped 3 p m c)
+paired-keep : (x : ℕ) (c : Check) (p : Place) (m : ℕ) → Paired x c → Paired x (jumped (formNumber quoted) p m c)
 unfolding jumped placed entered
 paired-keep x c p m o = record { refusal = o .refusal; form = refl; delimiter = o .delimiter }
 
@@ -228,36 +228,36 @@ jumped-here k p m c = refl
 
 module _ (x : ℕ) (other : x ≡ 0x22 → ⊥) where
   abbrev LeapsPairs : Bytes → Type 0
-  LeapsPairs g = (k : ℕ) (c : Check) → Paired x c → suc k ≤ pairs g → fedAll c g ≡ fedAll (jumped 3 (along (suc k + suc k) (c .here)) (suc k) c) (drop (suc k + suc k) g)
+  LeapsPairs g = (k : ℕ) (c : Check) → Paired x c → suc k ≤ pairs g → fedAll c g ≡ fedAll (jumped (formNumber quoted) (along (suc k + suc k) (c .here)) (suc k) c) (drop (suc k + suc k) g)
 
   module _ (f : Bytes) (ih : LeapsPairs f) (c : Check) (o : Paired x c) where
-    first-pair : fed (fed c 0x22) 0x22 ≡ jumped 3 (along 2 (c .here)) 1 c
+    first-pair : fed (fed c 0x22) 0x22 ≡ jumped (formNumber quoted) (along 2 (c .here)) 1 c
     first-pair = pair-step c (o .refusal) (o .form) (λ e. other (sym (o .delimiter) ∙ e))
 
-    more-pairs : (k : ℕ) → k ≤ pairs f → fedAll (fed (fed c 0x22) 0x22) f ≡ fedAll (jumped 3 (along (suc k + suc k) (c .here)) (suc k) c) (drop (k + k) f)
+    more-pairs : (k : ℕ) → k ≤ pairs f → fedAll (fed (fed c 0x22) 0x22) f ≡ fedAll (jumped (formNumber quoted) (along (suc k + suc k) (c .here)) (suc k) c) (drop (k + k) f)
     more-pairs zero l =
         ap (λ (c : Check). fedAll c f) first-pair
     more-pairs (suc n) l =
-        let c′ = jumped 3 (along 2 (c .here)) 1 c in
+        let c′ = jumped (formNumber quoted) (along 2 (c .here)) 1 c in
         let z : 1 + suc n ≡ suc (suc n) = omega arith in
         let y : 2 + (suc n + suc n) ≡ suc (suc n) + suc (suc n) = omega arith in
         ap (λ (c : Check). fedAll c f) first-pair
         ∙ ih n c′ (paired-keep x c (along 2 (c .here)) 1 o) l
-        ∙ ap (λ (p : Place). fedAll (jumped 3 (along (suc n + suc n) p) (suc n) c′) (drop (suc n + suc n) f)) (jumped-here 3 (along 2 (c .here)) 1 c)
+        ∙ ap (λ (p : Place). fedAll (jumped (formNumber quoted) (along (suc n + suc n) p) (suc n) c′) (drop (suc n + suc n) f)) (jumped-here (formNumber quoted) (along 2 (c .here)) 1 c)
         ∙ ap (λ (c : Check). fedAll c (drop (suc n + suc n) f)) (jump-jump 3 3 (along (suc n + suc n) (along 2 (c .here))) (along 2 (c .here)) (suc n) 1 c)
-        ∙ ap (λ (p : Place). fedAll (jumped 3 p (1 + suc n) c) (drop (suc n + suc n) f)) (along-along 2 (suc n + suc n) (c .here))
-        ∙ ap (λ (m : ℕ). fedAll (jumped 3 (along m (c .here)) (1 + suc n) c) (drop (suc n + suc n) f)) y
-        ∙ ap (λ (m : ℕ). fedAll (jumped 3 (along (suc (suc n) + suc (suc n)) (c .here)) m c) (drop (suc n + suc n) f)) z
+        ∙ ap (λ (p : Place). fedAll (jumped (formNumber quoted) p (1 + suc n) c) (drop (suc n + suc n) f)) (along-along 2 (suc n + suc n) (c .here))
+        ∙ ap (λ (m : ℕ). fedAll (jumped (formNumber quoted) (along m (c .here)) (1 + suc n) c) (drop (suc n + suc n) f)) y
+        ∙ ap (λ (m : ℕ). fedAll (jumped (formNumber quoted) (along (suc (suc n) + suc (suc n)) (c .here)) m c) (drop (suc n + suc n) f)) z
 
   module _ (a b : ℕ) (f : Bytes) (ih : LeapsPairs f) (k : ℕ) (c : Check) (o : Paired x c) where
     two : suc k + suc k ≡ suc (suc (k + k))
     two = omega arith
 
-    one-pair : (a ≡ 0x22) × (b ≡ 0x22) × (k ≤ pairs f) → fedAll (fed (fed c a) b) f ≡ fedAll (jumped 3 (along (suc k + suc k) (c .here)) (suc k) c) (drop (suc k + suc k) (a ∷ (b ∷ f)))
+    one-pair : (a ≡ 0x22) × (b ≡ 0x22) × (k ≤ pairs f) → fedAll (fed (fed c a) b) f ≡ fedAll (jumped (formNumber quoted) (along (suc k + suc k) (c .here)) (suc k) c) (drop (suc k + suc k) (a ∷ (b ∷ f)))
     one-pair q =
         rw (q .0, q .1)
         (more-pairs f ih c o k (q .2)
-        ∙ ap (λ (n : ℕ). fedAll (jumped 3 (along (suc k + suc k) (c .here)) (suc k) c) (drop n (0x22 ∷ (0x22 ∷ f)))) (sym two))
+        ∙ ap (λ (n : ℕ). fedAll (jumped (formNumber quoted) (along (suc k + suc k) (c .here)) (suc k) c) (drop n (0x22 ∷ (0x22 ∷ f)))) (sym two))
 
   leap-pairs : (g : Bytes) → LeapsPairs g
   unfolding fedAll
@@ -266,8 +266,8 @@ module _ (x : ℕ) (other : x ≡ 0x22 → ⊥) where
   leap-pairs (a ∷ (b ∷ f)) k c o h = one-pair a b f (leap-pairs f) k c o (pairs-first a b k f h)
 
 pub pairs-leap :
-    (s : Bytes) (i k : ℕ) (c : Check) → 0 < k → c .refusal ≡ 0 → c .form ≡ 3 → (c .delimiter ≡ 0x22 → ⊥) → k ≤ pairs (drop i s)
-    → fedAll (jumped 3 (along (k + k) (c .here)) k c) (drop (i + (k + k)) s) ≡ fedAll c (drop i s)
+    (s : Bytes) (i k : ℕ) (c : Check) → 0 < k → c .refusal ≡ 0 → c .form ≡ formNumber quoted → (c .delimiter ≡ 0x22 → ⊥) → k ≤ pairs (drop i s)
+    → fedAll (jumped (formNumber quoted) (along (k + k) (c .here)) k c) (drop (i + (k + k)) s) ≡ fedAll c (drop i s)
 pairs-leap s i zero c l r f d h = absurd (omega arith)
 pairs-leap s i (suc k) c l r f d h =
     rw (← drop-drop (suc k + suc k) i s) (sym (leap-pairs (c .delimiter) d (drop i s) k c (record { refusal = r; form = f; delimiter = refl }) h))

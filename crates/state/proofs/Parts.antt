@@ -3,6 +3,8 @@ use Prim.Native.Nat.{ℕ}
 use mathlib.Core.Path.{_≡_, refl}
 use Rattle.format.specs.declared.Place.{Place}
 use Rattle.format.specs.Place.{place}
+use Rattle.steps.specs.Steps.{start}
+use Rattle.steps.specs.Numbers.{formNumber}
 use Rattle.places.specs.Counters.{plus}
 use Rattle.state.specs.declared.Check.{Check}
 use Rattle.state.specs.declared.Counts.{Counts}
@@ -18,7 +20,7 @@ pub started-is :
       delimiter = b;
       leniencies = sum;
       refusal = 0;
-      form = 0;
+      form = formNumber start;
       begun = 0;
       used = record { lf = 0; blanks = 0; ragged = 0; bytes = 0 };
       here = place 1 1 0;
@@ -55,7 +57,7 @@ pub opened-is :
       delimiter = c .delimiter;
       leniencies = c .leniencies;
       refusal = c .refusal;
-      form = 0;
+      form = formNumber start;
       begun = b;
       used = v;
       here = p;

@@ -9,7 +9,8 @@ use Rattle.format.specs.Dialect.{lf, ragged, names, dialect, isWide, classOf}
 use Rattle.format.specs.House.{contentLimit}
 use Rattle.format.specs.Place.{place}
 use Rattle.steps.specs.declared.Stepped.{Stepped, the-variants.Refuse, the-variants.Quiet, the-variants.Put, the-variants.Hold, the-variants.Drop, the-variants.EndField, the-variants.EndRecord}
-use Rattle.steps.specs.Numbers.{classNumber, stepTable, stepBy}
+use Rattle.steps.specs.Steps.{start, shut, cr, stepOf}
+use Rattle.steps.specs.Numbers.{formNumber, formOf, coded}
 use Rattle.places.specs.Counters.{plus, moved}
 use Rattle.state.specs.declared.Used.{Used}
 use Rattle.state.specs.declared.Current.{Current}
@@ -27,7 +28,7 @@ started b sum =
       delimiter = b;
       leniencies = sum;
       refusal = 0;
-      form = 0;
+      form = formNumber start;
       begun = 0;
       used = record { lf = 0; blanks = 0; ragged = 0; bytes = 0 };
       here = place 1 1 0;
@@ -75,7 +76,7 @@ opened u v x s c =
       delimiter = c .delimiter;
       leniencies = c .leniencies;
       refusal = c .refusal;
-      form = 0;
+      form = formNumber start;
       begun = u;
       used = v;
       here = c .here;
@@ -184,7 +185,7 @@ recordEnded v at next l c =
 
 -- the place of a break or a fault that is seen here: behind a CR it is that of the CR
 abbrev pub seenAt : Check → Place
-seenAt c = cond (leb 6 (c .form)) (c .anchor) (c .here)
+seenAt c = cond (leb (formNumber cr) (c .form)) (c .anchor) (c .here)
 
 -- the field in work with other counts
 abbrev pub grown : Check → ℕ → ℕ → Current
@@ -193,19 +194,19 @@ grown c m h = record { start = c .field .start; content = m; held = h; number = 
 -- what a step does
 unfoldable pub stepped : Stepped → Used → Place → Check → Check
 stepped (Refuse n) v next c = stopped n (seenAt c) c
-stepped (Quiet k) v next c = entered k (cond (eqb k 4) (c .anchor) (c .here)) v (c .field) c
+stepped (Quiet k) v next c = entered k (cond (eqb k (formNumber shut)) (c .anchor) (c .here)) v (c .field) c
 stepped (Put k) v next c = entered k (c .anchor) v (grown c (plus (plus (c .field .content) (c .field .held)) 1) 0) c
 stepped (Hold k) v next c = entered k (c .anchor) v (grown c (c .field .content) (plus (c .field .held) 1)) c
 stepped (Drop k) v next c = entered k (c .anchor) (record { lf = v .lf; blanks = 1; ragged = v .ragged; bytes = v .bytes }) (c .field) c
 stepped EndField v next c = fieldEnded v next c
-stepped EndRecord v next c = recordEnded v (seenAt c) next (not (leb 6 (c .form))) c
+stepped EndRecord v next c = recordEnded v (seenAt c) next (not (leb (formNumber cr) (c .form))) c
 
 -- a byte: behind a refusal it is only counted
 unfoldable pub fed : Check → ℕ → Check
 fed c b =
     placed (moved b (c .here))
     (cond (eqb (c .refusal) 0)
-    (stepped (stepBy stepTable (names (c .leniencies) lf) (c .form) (classNumber (classOf (dialect (c .delimiter) (c .leniencies)) b))) (noted b c) (moved b (c .here)) c)
+    (stepped (coded (stepOf (names (c .leniencies) lf) (formOf (c .form)) (classOf (dialect (c .delimiter) (c .leniencies)) b))) (noted b c) (moved b (c .here)) c)
     c)
 
 -- a piece

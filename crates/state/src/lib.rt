@@ -82,10 +82,7 @@ fn only_wide(delimiter: u8, b: u8) -> bool
     if b == delimiter {
         return false;
     }
-    if b == 0x09 {
-        return true;
-    }
-    0x80 <= b
+    steps::is_wide(b)
 }
 
 // The leniencies used where a field ends, with blanks held; even and lone say whether its record is
@@ -158,10 +155,7 @@ impl Check {
         if self.refusal != 0 {
             return self.placed(next);
         }
-        let t = steps::table();
-        let lf = self.leniencies % 2 == 1;
-        let class = steps::class_of(self.delimiter, self.leniencies, b);
-        let s = steps::step(&t, lf, self.form, class);
+        let s = steps::step(self.delimiter, self.leniencies, self.form, b);
         let v = self.noted(b);
         self.stepped(s, v, next).placed(next)
     }
@@ -176,7 +170,7 @@ impl Check {
             Stepped::Refuse(n) => self.stopped(n, self.seen_at()),
             Stepped::Quiet(k) => {
                 let here = self.here;
-                let p = if k == 4 { anchor } else { here };
+                let p = if k == steps::SHUT { anchor } else { here };
                 self.entered(k, p, v, field)
             }
             Stepped::Put(k) => self.filled(k, v, 1),
@@ -192,7 +186,7 @@ impl Check {
             }
             Stepped::EndField => self.field_ended(v, next),
             Stepped::EndRecord => {
-                let behind_cr = 6 <= self.form;
+                let behind_cr = steps::AFTER_CR <= self.form;
                 self.record_ended(v, self.seen_at(), next, !behind_cr)
             }
         }
@@ -234,7 +228,7 @@ impl Check {
         let width = places::plus(self.field.number.0, 1);
         let even = as_wide(self.counts.width, width);
         if !even {
-            if self.leniencies / 4 % 2 != 1 {
+            if !steps::allows_ragged(self.leniencies) {
                 return self.stopped(10, at);
             }
         }
@@ -280,7 +274,7 @@ impl Check {
         ensures { λ r. ⌜ r ≡ opened begun v x s self ⌝ }
     {
         let mut c = self;
-        c.form = 0;
+        c.form = steps::START;
         c.begun = begun;
         c.used = v;
         c.field = x;
@@ -312,7 +306,7 @@ impl Check {
     fn seen_at(self) -> Place
         ensures { λ r. ⌜ r ≡ seenAt self ⌝ }
     {
-        if 6 <= self.form {
+        if steps::AFTER_CR <= self.form {
             self.anchor
         } else {
             self.here

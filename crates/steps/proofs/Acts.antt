@@ -121,7 +121,7 @@ stops forbidden = true
 
 module _ (y : Bool) where
   -- text before a field, or in a bare one
-  pub text-puts : (k : Form) → leb (formNumber k) 2 ≡ true → stepOf y k text ≡ go bare put
+  pub text-puts : (k : Form) → leb (formNumber k) (formNumber bare) ≡ true → stepOf y k text ≡ go bare put
   unfolding stepOf
   text-puts start e = refl
   text-puts lead e = refl

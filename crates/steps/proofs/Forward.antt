@@ -188,7 +188,7 @@ module _ (d : Dialect) (b : ℕ) (f : Bytes) (p : Point) where
 abbrev pub lastly : Dialect → Form → Point → Ans Total
 lastly d k p =
     let w = ended (p .work) in
-    cond (eqb (formNumber k) 3) (stop 8 (p .anchor)) (cond (behindCr k) (stop 6 (p .anchor)) (recordUp d w [] (closed (recordOn false [] w))))
+    cond (eqb (formNumber k) (formNumber quoted)) (stop 8 (p .anchor)) (cond (behindCr k) (stop 6 (p .anchor)) (recordUp d w [] (closed (recordOn false [] w))))
 
 pub comes-end : (d : Dialect) (p : Point) → comes d [] p ≡ cond (p .begun) (lastly d (p .form) p) (closed (p .work .account))
 unfolding comes run
@@ -237,7 +237,7 @@ module _ (d : Dialect) where
 
 -- the anchor is kept, and else it is the byte's own place
 abbrev pub keeps : Form → Out → Bool
-keeps j nothing = eqb (formNumber j) 4
+keeps j nothing = eqb (formNumber j) (formNumber shut)
 keeps j put = true
 keeps j hold = true
 keeps j drop = true

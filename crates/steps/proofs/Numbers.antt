@@ -36,20 +36,20 @@ pub class-at : (n : ℕ) → classNumber (classFrom n) ≡ min n 6
 unfolding classFrom
 class-at = by-number (λ n. classNumber (classFrom n) ≡ min n 6) refl refl refl refl refl refl (λ n. sym (min-eq-right (omega arith)))
 
-pub quotes-at : (n : ℕ) → inQuotes (formOf n) ≡ (eqb n 3 || eqb n 4)
+pub quotes-at : (n : ℕ) → inQuotes (formOf n) ≡ (eqb n (formNumber quoted) || eqb n (formNumber shut))
 unfolding formOf
 quotes-at =
     by-number (λ n. inQuotes (formOf n) ≡ (eqb n 3 || eqb n 4)) refl refl refl refl refl refl
     (λ n. rw (ne-eqb (six+ n) 3 (omega arith), ne-eqb (six+ n) 4 (omega arith)))
 
-pub cr-at : (n : ℕ) → behindCr (formOf n) ≡ leb 6 n
+pub cr-at : (n : ℕ) → behindCr (formOf n) ≡ leb (formNumber cr) n
 unfolding formOf
 cr-at = by-number (λ n. behindCr (formOf n) ≡ leb 6 n) refl refl refl refl refl refl (λ n. sym (le-leb 6 (six+ n) (omega arith)))
 
-pub behind-number : (k : Form) → leb 6 (formNumber k) ≡ behindCr k
+pub behind-number : (k : Form) → leb (formNumber cr) (formNumber k) ≡ behindCr k
 behind-number = elim [ start ↦ refl | lead ↦ refl | bare ↦ refl | quoted ↦ refl | shut ↦ refl | tail ↦ refl | cr ↦ refl ]
 
-pub blank-at : (n : ℕ) → isBlank (classFrom n) ≡ eqb n 1
+pub blank-at : (n : ℕ) → isBlank (classFrom n) ≡ eqb n (classNumber blank)
 unfolding classFrom
 blank-at = by-number (λ n. isBlank (classFrom n) ≡ eqb n 1) refl refl refl refl refl refl (λ n. sym (ne-eqb (six+ n) 1 (omega arith)))
 
@@ -63,7 +63,7 @@ past n zero h = omega arith
 past n (suc k) h = omega (arith, past n k (h .0), h .1)
 
 -- the numbers of a forbidden byte and of specialClass
-pub forbidden-number : (x : Class) → classNumber x ≡ 6 → x ≡ forbidden
+pub forbidden-number : (x : Class) → classNumber x ≡ classNumber forbidden → x ≡ forbidden
 forbidden-number text e = absurd (omega (arith, e))
 forbidden-number blank e = absurd (omega (arith, e))
 forbidden-number delimiter e = absurd (omega (arith, e))
@@ -72,7 +72,7 @@ forbidden-number CR e = absurd (omega (arith, e))
 forbidden-number LF e = absurd (omega (arith, e))
 forbidden-number forbidden e = refl
 
-pub special-number : (x : Class) → specialClass x ≡ (leb 2 (classNumber x) && leb (classNumber x) 5)
+pub special-number : (x : Class) → specialClass x ≡ (leb (classNumber delimiter) (classNumber x) && leb (classNumber x) (classNumber LF))
 special-number text = refl
 special-number blank = refl
 special-number delimiter = refl

@@ -1,11 +1,10 @@
--- The laws of a step: its table is the rules' table, and what is promised of each function settles its answer.
+-- The laws of a step: its table is the rules' table.
 use Prim.Native.Nat.{ℕ}
-use mathlib.Core.Path.{_≡_, refl, sym, _∙_}
+use mathlib.Core.Path.{_≡_, refl}
 use mathlib.Core.Bool.{Bool}
-use mathlib.Core.List.{List, [], map}
+use mathlib.Core.List.{[], map}
 use lib.ListN.{getD, List·getD-map}
-use Rattle.format.specs.Dialect.{Class, text, blank, delimiter, quote, CR, LF, forbidden, dialect, classOf}
-use Rattle.steps.specs.declared.Stepped.{Stepped}
+use Rattle.format.specs.Dialect.{Class, text, blank, delimiter, quote, CR, LF, forbidden}
 use Rattle.steps.specs.Steps.{Form, start, lead, bare, quoted, shut, tail, cr, next, stepOf}
 use Rattle.steps.specs.Numbers.{formNumber, classNumber, formOf, classFrom, moveOf, coded, forms, classes, stepTable, stepBy}
 use Rattle.steps.proofs.Numbers.{form-at, class-at}
@@ -37,17 +36,3 @@ class-back = elim [ text ↦ refl | blank ↦ refl | delimiter ↦ refl | quote 
 pub step-any : (lf : Bool) (form class : ℕ) → stepBy stepTable lf form class ≡ coded (stepOf lf (formOf form) (classFrom class))
 unfolding stepBy stepOf
 step-any lf form class = rw (← form-at form, ← class-at class, entry-is)
-
-pub step-is : (lf : Bool) (k : Form) (x : Class) → stepBy stepTable lf (formNumber k) (classNumber x) ≡ coded (stepOf lf k x)
-step-is lf k x = rw (step-any, form-back, class-back)
-
--- two answers that a promise allows are the same
-pub table-one : (r s : List (List ℕ)) → r ≡ stepTable → s ≡ stepTable → r ≡ s
-table-one r s p q = p ∙ sym q
-
-pub class-one : (d l b r s : ℕ) → r ≡ classNumber (classOf (dialect d l) b) → s ≡ classNumber (classOf (dialect d l) b) → r ≡ s
-class-one d l b r s p q = p ∙ sym q
-
-pub step-one :
-    (t : List (List ℕ)) (lf : Bool) (form class : ℕ) (r s : Stepped) → r ≡ stepBy t lf form class → s ≡ stepBy t lf form class → r ≡ s
-step-one t lf form class r s p q = p ∙ sym q

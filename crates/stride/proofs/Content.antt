@@ -16,6 +16,7 @@ use Rattle.steps.proofs.Acts.{over, over-delimiter, over-CR, text-puts, quote-o
 use Rattle.runs.specs.Runs.{run, isPlain, isInner}
 use Rattle.runs.proofs.Runs.{run-within, BreakAt, break-at}
 use Rattle.format.proofs.Classes.{delimiter-at, quote-beside, CR-beside, LF-beside}
+use Rattle.steps.specs.Numbers.{formNumber}
 use Rattle.runs.proofs.Bytes.{plain-class}
 use Rattle.fill.specs.declared.Head.{Head}
 use Rattle.fill.specs.declared.Field.{Field}
@@ -167,7 +168,7 @@ module _ (d : Dialect) (f : Bytes) (e : ℕ) (q : Break d f e) (k : Form) (s : E
   break-rows n u = rw (two, rows-byte d, CR-beside d (q .no-cr), s .on-CR, rows-byte d, LF-beside d (q .no-lf), CR-LF (d .allows lf))
 
 -- a field at whose start the walk is, with its content
-module _ (d : Dialect) (f : Bytes) (p : Head) (e₁ : p .form ≡ 0) (e₂ : p .held ≡ 0) (c k e : ℕ) (o : Content d f (p .at) c k e) where
+module _ (d : Dialect) (f : Bytes) (p : Head) (e₁ : p .form ≡ formNumber start) (e₂ : p .held ≡ 0) (c k e : ℕ) (o : Content d f (p .at) c k e) where
   ends-field : e < length f → getD f e 0 ≡ d .delimiterByte → Ends d f p (take k (drop c f)) (e + 1) false (p .text + k)
   ends-field v q =
       let room = o .room in

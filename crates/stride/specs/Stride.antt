@@ -6,7 +6,10 @@ use mathlib.Core.List.{List, [], _∷_, _++_}
 use lib.ListN.{length, getD, take, drop}
 use Rattle.format.specs.Table.{Bytes}
 use Rattle.format.specs.Dialect.{Dialect}
+use Rattle.steps.specs.Steps.{start}
+use Rattle.steps.specs.Numbers.{formNumber}
 use Rattle.runs.specs.Runs.{run, isPlain, isBreak}
+use Rattle.runs.specs.Words.{largest32}
 use Rattle.fill.specs.declared.Head.{Head}
 use Rattle.fill.specs.declared.Field.{Field}
 use Rattle.fill.specs.Put.{behind, endOf}
@@ -17,8 +20,8 @@ pub record Ample (d : Dialect) (f : Bytes) (p : Head) (text ends rows : List ℕ
   pub text-room : p .text + length (textAhead d f p) ≤ length text
   pub ends-room : p .ends + length (endsAhead d f p) ≤ length ends
   pub rows-room : p .rows + length (rowsAhead d f p) ≤ length rows
-  pub text-small : p .text + length (textAhead d f p) ≤ 4294967295
-  pub ends-small : p .ends + length (endsAhead d f p) ≤ 4294967295
+  pub text-small : p .text + length (textAhead d f p) ≤ largest32
+  pub ends-small : p .ends + length (endsAhead d f p) ≤ largest32
   pub held : p .held ≤ p .at
 
 -- the field in work ends: behind its last w bytes of content its end is n, and the next field begins at a place
@@ -31,7 +34,7 @@ pub record Ends (d : Dialect) (f : Bytes) (p : Head) (w : Bytes) (next : ℕ) (r
 
 -- at the start of a field that is plain text up to q, where a byte stands
 pub record Plain (d : Dialect) (f : Bytes) (p : Head) (q : ℕ) : Type 0 where
-  pub form : p .form ≡ 0
+  pub form : p .form ≡ formNumber start
   pub held : p .held ≡ 0
   pub no-lf : d .delimiterByte ≡ 0x0A → ⊥
   pub from : p .at ≤ q

@@ -8,9 +8,7 @@ ghost use Prim.Native.Nat.{_+_, _<_, _≤_};
 ghost use lib.Dec.{ltb};
 ghost use lib.ListN.{length, getD, set, replicate};
 ghost use lib.Seq.{sets};
-ghost use Rattle.format.specs.Dialect.{lf, names, dialect, classOf};
-ghost use Rattle.steps.specs.Steps.{stepOf};
-ghost use Rattle.steps.specs.Numbers.{formOf, actOf};
+ghost use Rattle.format.specs.Dialect.{dialect};
 ghost use Rattle.fill.specs.Walk.{Wrote};
 ghost use Rattle.stride.specs.Stride.{Ample, EndAt, Found};
 use fill::Field;
@@ -36,7 +34,7 @@ pub fn take_byte(
         return p;
     }
     let b = file[at];
-    let s = step_by(delimiter, leniencies, p.form, b);
+    let s = steps::step(delimiter, leniencies, p.form, b);
     match s {
         Stepped::Refuse(_) => stopped(p, file.len()),
         Stepped::Quiet(k) => moved(p, k, p.held, p.text),
@@ -46,15 +44,6 @@ pub fn take_byte(
         Stepped::EndField => fill::put_end(p, at + 1, false, ends, rows),
         Stepped::EndRecord => fill::put_end(p, at + 1, true, ends, rows),
     }
-}
-
-// What a byte does in a form.
-fn step_by(delimiter: u8, leniencies: u8, form: u8, b: u8) -> Stepped
-    ensures { λ r. ⌜ actOf r ≡ stepOf (names leniencies lf) (formOf form) (classOf (dialect delimiter leniencies) b) ⌝ }
-{
-    let t = steps::table();
-    let class = steps::class_of(delimiter, leniencies, b);
-    steps::step(&t, leniencies % 2 == 1, form, class)
 }
 
 // The place at the file's end, with nothing left to write.

@@ -8,6 +8,8 @@ use lib.ListN.{length, getD, take, drop}
 use lib.Count.{trailingZeros}
 use Rattle.format.specs.Table.{Bytes}
 use Rattle.format.specs.Dialect.{Dialect}
+use Rattle.steps.specs.Steps.{start}
+use Rattle.steps.specs.Numbers.{formNumber}
 use Rattle.runs.specs.Runs.{run, isPlain}
 use Rattle.runs.specs.Words.{word, blockEnd, Stops}
 use Rattle.runs.proofs.Runs.{run-join, run-within}
@@ -26,7 +28,7 @@ pub record Base (d : Dialect) (t : List Bool) (f : Bytes) : Type 0 where
 
 -- at i, in a field that begins at h; up to i it is plain text
 pub record Fields (d : Dialect) (f : Bytes) (p : Head) (text₀ ends₀ rows₀ : List ℕ) (i : ℕ) (h : Head) (text ends rows : List ℕ) : Type 0 where
-  pub form : h .form ≡ 0
+  pub form : h .form ≡ formNumber start
   pub held : h .held ≡ 0
   pub within : i ≤ length f
   pub from : h .at ≤ i
@@ -34,7 +36,7 @@ pub record Fields (d : Dialect) (f : Bytes) (p : Head) (text₀ ends₀ rows₀ 
   pub wrote : Wrote d f p text₀ ends₀ rows₀ h text ends rows
 
 pub fields-start :
-    {d : Dialect} {f : Bytes} {p : Head} {text ends rows : List ℕ} → p .at ≤ length f → p .form ≡ 0 → p .held ≡ 0
+    {d : Dialect} {f : Bytes} {p : Head} {text ends rows : List ℕ} → p .at ≤ length f → p .form ≡ formNumber start → p .held ≡ 0
     → Fields d f p text ends rows (p .at) p text ends rows
 fields-start l e₁ e₂ = record { form = e₁; held = e₂; within = l; from = omega arith; so-far = omega arith; wrote = wrote-none }
 
@@ -93,10 +95,10 @@ joined g k = record { form = k .form; held = k .held; within = k .within; from =
 -- behind a field: at the start of the next
 pub fields-next :
     {d : Dialect} {f : Bytes} {p h : Head} {text₀ ends₀ rows₀ text ends rows : List ℕ} {i : ℕ}
-    → Wrote d f p text₀ ends₀ rows₀ h text ends rows → h .at ≡ i → i ≤ length f → h .form ≡ 0 → h .held ≡ 0 → Fields d f p text₀ ends₀ rows₀ i h text ends rows
+    → Wrote d f p text₀ ends₀ rows₀ h text ends rows → h .at ≡ i → i ≤ length f → h .form ≡ formNumber start → h .held ≡ 0 → Fields d f p text₀ ends₀ rows₀ i h text ends rows
 fields-next w e l e₁ e₂ = record { form = e₁; held = e₂; within = l; from = omega arith; so-far = omega arith; wrote = w }
 
 pub start-again :
-    (y : Bool) (p : Head) (next n : ℕ) (row : Bool) {r : Head} → r ≡ cond y (behind p next row n) p → p .form ≡ 0 → p .held ≡ 0 → (r .form ≡ 0) × (r .held ≡ 0)
+    (y : Bool) (p : Head) (next n : ℕ) (row : Bool) {r : Head} → r ≡ cond y (behind p next row n) p → p .form ≡ formNumber start → p .held ≡ 0 → (r .form ≡ formNumber start) × (r .held ≡ 0)
 start-again true p next n row e e₁ e₂ = rw e (refl, refl)
 start-again false p next n row e e₁ e₂ = rw e (e₁, e₂)

@@ -8,6 +8,8 @@ ghost use Prim.Native.Nat.{ℕ, _≤_};
 ghost use mathlib.Core.List.{List};
 ghost use lib.ListN.{length};
 ghost use Rattle.format.specs.Dialect.{Dialect, dialect};
+ghost use Rattle.steps.specs.Steps.{start};
+ghost use Rattle.steps.specs.Numbers.{formNumber};
 ghost use Rattle.runs.specs.Words.{Stops};
 ghost use Rattle.fill.specs.Walk.{Wrote};
 ghost use Rattle.stride.specs.Stride.{Ample};
@@ -40,9 +42,9 @@ pub fn walked(
 
 // Whether the walk is at the start of a field, and no LF delimits fields.
 fn begins(p: Head, delimiter: u8) -> bool
-    ensures { λ r. ⌜ (r ≡ true → (p .form ≡ 0) × (p .held ≡ 0) × (delimiter ≡ 0x0A → ⊥)) ⌝ }
+    ensures { λ r. ⌜ (r ≡ true → (p .form ≡ formNumber start) × (p .held ≡ 0) × (delimiter ≡ 0x0A → ⊥)) ⌝ }
 {
-    (p.form == 0) & (p.held == 0) & (delimiter != 0x0A)
+    (p.form == steps::START) & (p.held == 0) & (delimiter != 0x0A)
 }
 
 // Passes what can be written at once: bare fields of plain text, and quoted ones of bytes that are

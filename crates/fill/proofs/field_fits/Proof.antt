@@ -6,11 +6,12 @@ use borrow.Author.Tests.{not-true, not-false, le-leb, lt-leb}
 use Rattle.fill.specs.Put.{endOf}
 use Rattle.fill.proofs.Put.{fits-least}
 use borrow.Author.Needs.{needs}
+use Rattle.runs.specs.Words.{largest32}
 use Rattle.fill.proofs.field_fits.Statement.{statement}
 use Rattle.fill.proofs.field_fits.Tie as tie
 
 -- whether the content fits
-test : (c : tie.After-within) → let a = c .before .before .before .before .before .before .before .args in c .within .result ≡ leb (endOf (a .p) (a .x)) (min (a .text) 4294967295)
+test : (c : tie.After-within) → let a = c .before .before .before .before .before .before .before .args in c .within .result ≡ leb (endOf (a .p) (a .x)) (min (a .text) largest32)
 test c = let a = c .before .before .before .before .before .before .before .args in c .within .ensures ∙ ap (leb (endOf (a .p) (a .x))) (c .before .numbered .ensures)
 
 returns : tie.Need-returns

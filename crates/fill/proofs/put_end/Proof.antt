@@ -8,6 +8,7 @@ use borrow.Author.Tests.{not-true, not-false}
 use Rattle.fill.proofs.Put.{end-room, rows-few}
 use Rattle.fill.specs.Put.{endFits}
 use borrow.Author.Needs.{needs}
+use Rattle.runs.specs.Words.{largest32}
 use Rattle.fill.proofs.put_end.Statement.{statement}
 use Rattle.fill.proofs.put_end.Tie as tie
 
@@ -21,7 +22,7 @@ returns c = rw (sym (c .before .end-fits .ensures) ∙ not-true _ (c .if1 .taken
 test : (c : tie.Else1) → let a = c .before .before .before .before .args in endFits (a .p) (a .p .text) (a .row) (length (a .ends .now)) (length (a .rows .now)) ≡ true
 test c = sym (c .before .end-fits .ensures) ∙ not-false _ (c .if1 .left)
 
-few : (c : tie.Else1) → let a = c .before .before .before .before .args in (a .p .ends < 4294967295) × (a .p .rows + cond (a .row) 1 0 ≤ 18446744073709551615)
+few : (c : tie.Else1) → let a = c .before .before .before .before .args in (a .p .ends < largest32) × (a .p .rows + cond (a .row) 1 0 ≤ 18446744073709551615)
 few c =
     let a = c .before .before .before .before .args in
     let r = end-room (a .p) (a .p .text) (a .row) (length (a .ends .now)) (length (a .rows .now)) (test c) in

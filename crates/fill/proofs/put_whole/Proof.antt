@@ -8,6 +8,7 @@ use borrow.Author.Tests.{not-true, not-false}
 use Rattle.fill.proofs.Put.{FieldRoom, field-room, room-end, rows-few}
 use Rattle.fill.specs.Put.{fieldFits, endOf}
 use borrow.Author.Needs.{needs}
+use Rattle.runs.specs.Words.{largest32}
 use Rattle.fill.proofs.put_whole.Statement.{statement}
 use Rattle.fill.proofs.put_whole.Tie as tie
 
@@ -30,7 +31,7 @@ room c = let a = c .before .before .before .before .before .before .args in fiel
 
 few :
     (c : tie.Else1) → let a = c .before .before .before .before .before .before .args in
-    (a .p .ends < 4294967295) × (a .p .rows + cond (a .x .row) 1 0 ≤ 18446744073709551615)
+    (a .p .ends < largest32) × (a .p .rows + cond (a .x .row) 1 0 ≤ 18446744073709551615)
 few c =
     let s = c .before .before .before .before .before .before in
     let a = s .args in

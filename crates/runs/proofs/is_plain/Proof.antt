@@ -35,11 +35,15 @@ returns-2 : tie.Need-returns-2
 unfolding isPlain classOf
 returns-2 c = let a = c .before .before .args in rw (ne-eqb (a .b) (a .delimiter) (c .before .if1 .left), c .if2 .taken)
 
+allows-blanks-requires : tie.Need-allows-blanks-requires
+allows-blanks-requires c κs = tt
+
 returns-3 : tie.Need-returns-3
 unfolding isPlain classOf
 returns-3 c =
-    let a = c .before .before .before .args in
-    rw (ne-eqb (a .b) (a .delimiter) (c .before .before .if1 .left), c .if3 .taken) (blank-case (names (a .leniencies) blanks))
+    let t = c .before in
+    let a = t .before .before .before .args in
+    rw (c .allows-blanks .ensures, ne-eqb (a .b) (a .delimiter) (t .before .before .if1 .left), t .if3 .taken) (blank-case (names (a .leniencies) blanks))
 
 returns-4 : tie.Need-returns-4
 unfolding isPlain classOf
@@ -69,4 +73,4 @@ returns-5 c =
     (high-case (leb (a .b) 0x7E) (isWide (a .b)) (names (a .leniencies) bytes) (λ e. let l = leb-true (a .b) 0x7E e in rw (ne-eqb (a .b) 0x09 (λ q. omega arith), lt-leb 0x80 (a .b) (omega arith))))
 
 pub is-plain-spec : {M : Type 1} → statement M
-is-plain-spec = tie.close (tie.spec returns returns-2 returns-3 returns-4 returns-5)
+is-plain-spec = tie.close (tie.spec returns returns-2 allows-blanks-requires returns-3 returns-4 returns-5)

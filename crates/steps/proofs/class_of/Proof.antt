@@ -1,12 +1,20 @@
 -- `steps::class_of` meets its contract: each test of the code is the test of `classOf`.
-use mathlib.Core.Path.{_≡_}
-use mathlib.Core.Bool.{false, cond, and-true}
+use mathlib.Core.Path.{_≡_, sym, _∙_}
+use mathlib.Core.Bool.{false, cond}
 use mathlib.Core.Logic.{⊎-elim}
-use native.Mathlib.Omega.{arith}
 use borrow.Author.Tests.{eq-eqb, ne-eqb, le-leb, lt-leb}
 use Rattle.format.specs.Dialect.{bytes, names, dialect, text, forbidden, isPrintable, isWide, classOf}
 use Rattle.steps.proofs.class_of.Statement.{statement}
 use Rattle.steps.proofs.class_of.Tie as tie
+
+allows-blanks-requires : tie.Need-allows-blanks-requires
+allows-blanks-requires c κs = tt
+
+is-wide-requires : tie.Need-is-wide-requires
+is-wide-requires c κs = tt
+
+allows-bytes-requires : tie.Need-allows-bytes-requires
+allows-bytes-requires c κs = tt
 
 -- the delimiter, and bytes that one test settles: behind the delimiter's test the rest computes
 returns : tie.Need-returns
@@ -27,11 +35,15 @@ returns-4 c = rw (ne-eqb _ _ (c .before .before .before .if1 .left), c .if4 .tak
 
 returns-5 : tie.Need-returns-5
 unfolding classOf
-returns-5 c = rw (ne-eqb _ _ (c .before .before .before .before .before .if1 .left), c .before .if5 .taken, eq-eqb _ _ (c .if6 .taken))
+returns-5 c =
+    let a = c .before in
+    rw (ne-eqb _ _ (a .before .before .before .before .before .if1 .left), a .before .if5 .taken, sym (a .allows-blanks .ensures) ∙ c .if6 .taken)
 
 returns-6 : tie.Need-returns-6
 unfolding classOf
-returns-6 c = rw (ne-eqb _ _ (c .before .before .before .before .before .if1 .left), c .before .if5 .taken, ne-eqb _ _ (c .if6 .left))
+returns-6 c =
+    let a = c .before in
+    rw (ne-eqb _ _ (a .before .before .before .before .before .if1 .left), a .before .if5 .taken, sym (a .allows-blanks .ensures) ∙ c .if6 .left)
 
 -- what those tests leave
 beyond :
@@ -51,35 +63,34 @@ beyond c =
 unprintable : (c : tie.Joined7) → isPrintable (c .before .before .before .before .before .before .args .b) ≡ false
 unprintable c = ⊎-elim (λ w. rw (le-leb _ _ (w .0 .taken), w .1 .left)) (λ w. rw (lt-leb _ _ (w .left))) (c .if7 .came)
 
-wide : (c : tie.Joined9) → isWide (c .before .before .before .before .before .before .before .args .b) ≡ c .if9 .if10
-wide c =
-    let a = c .before .before .before .before .before .before .before in
-    ⊎-elim
-    (λ w. rw (w .1, eq-eqb _ _ (w .0 .taken)))
-    (λ w. rw (w .1, ne-eqb _ _ (w .0 .left), le-leb (a .args .b) 0xFF (omega (arith, a .fits .b))) (and-true _))
-    (c .if9 .came)
-
 last :
-    (c : tie.Joined9) → let a = c .before .before .before .before .before .before .before .args in
-    classOf (dialect (a .delimiter) (a .leniencies)) (a .b) ≡ cond (c .if9 .if10) (cond (names (a .leniencies) bytes) text forbidden) forbidden
-last c = rw (beyond (c .before .before), unprintable (c .before), wide c)
+    (c : tie.After-is-wide) → let a = c .before .before .before .before .before .before .before .args in
+    classOf (dialect (a .delimiter) (a .leniencies)) (a .b) ≡ cond (c .is-wide .result) (cond (names (a .leniencies) bytes) text forbidden) forbidden
+last c = rw (beyond (c .before .before), unprintable (c .before), c .is-wide .ensures)
 
 returns-7 : tie.Need-returns-7
 returns-7 c = rw (beyond (c .before .before), le-leb _ _ (c .before .if7 .taken), c .if8 .taken)
 
 returns-8 : tie.Need-returns-8
-returns-8 c = rw (last (c .before .before), c .before .if10 .taken, eq-eqb _ _ (c .if11 .taken))
+returns-8 c =
+    let a = c .before in
+    rw (last (a .before .before), a .before .if9 .taken, sym (a .allows-bytes .ensures) ∙ c .if10 .taken)
 
 returns-9 : tie.Need-returns-9
-returns-9 c = rw (last (c .before .before), c .before .if10 .taken, ne-eqb _ _ (c .if11 .left))
+returns-9 c =
+    let a = c .before in
+    rw (last (a .before .before), a .before .if9 .taken, sym (a .allows-bytes .ensures) ∙ c .if10 .left)
 
 returns-10 : tie.Need-returns-10
-returns-10 c = rw (last (c .before), c .if10 .left)
+returns-10 c = rw (last (c .before), c .if9 .left)
 
 pub class-of-spec : {M : Type 1} → statement M
 class-of-spec =
     tie.close
     (tie.spec
+    allows-blanks-requires
+    is-wide-requires
+    allows-bytes-requires
     returns
     returns-2
     returns-3

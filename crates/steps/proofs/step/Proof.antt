@@ -1,41 +1,26 @@
--- `steps::step` meets its contract.
-use Rattle.steps.specs.Numbers.{stepBy}
+-- `steps::step` meets its contract: the entry of the code's table is the rules' step.
 use borrow.Author.Needs.{needs}
+use Rattle.steps.proofs.Rules.{step-any, class-back}
 use Rattle.steps.proofs.step.Statement.{statement}
 use Rattle.steps.proofs.step.Tie as tie
 
-at-most-six-requires : tie.Need-at-most-six-requires
-at-most-six-requires c κs = search needs
+table-requires : tie.Need-table-requires
+table-requires c κs = search needs
 
-at-most-six-requires-2 : tie.Need-at-most-six-requires-2
-at-most-six-requires-2 c κs = search needs
+class-of-requires : tie.Need-class-of-requires
+class-of-requires c κs = search needs
 
-mul-entry : tie.Need-mul-entry
-mul-entry c = search needs
+allows-lf-requires : tie.Need-allows-lf-requires
+allows-lf-requires c κs = search needs
 
-index-1-entry : tie.Need-index-1-entry
-index-1-entry c = search needs
-
-index-2-entry : tie.Need-index-2-entry
-index-2-entry c = search needs
-
-carry-out-requires : tie.Need-carry-out-requires
-carry-out-requires c κs = search needs
+step-by-requires : tie.Need-step-by-requires
+step-by-requires c κs = search needs
 
 returns : tie.Need-returns
-unfolding stepBy
 returns c =
-    let d = c .before .before in
-    rw (c .carry-out .ensures, d .before .at-most-six .ensures, d .at-most-six2 .ensures)
+    let a = c .before in
+    let d = a .before .before in
+    rw (c .step-by .ensures, d .before .table .ensures, step-any, a .allows-lf .ensures, d .class-of .ensures, class-back)
 
 pub step-spec : {M : Type 1} → statement M
-step-spec =
-    tie.close
-    (tie.spec
-    at-most-six-requires
-    at-most-six-requires-2
-    mul-entry
-    index-1-entry
-    index-2-entry
-    carry-out-requires
-    returns)
+step-spec = tie.close (tie.spec table-requires class-of-requires allows-lf-requires step-by-requires returns)

@@ -9,6 +9,7 @@ use borrow.Author.Tests.{lt-ltb}
 use Rattle.format.specs.Dialect.{dialect}
 use Rattle.steps.specs.declared.Stepped.{Stepped}
 use Rattle.steps.specs.Numbers.{actOf}
+use Rattle.steps.proofs.Acts.{act-back}
 use Rattle.fill.proofs.Grown.{wrote-none}
 use Rattle.stride.proofs.Walk.{Does, goes, ends-here, end-put, end-moves, end-fits, put-wrote, put-fits, hold-wrote, stops}
 use borrow.Author.Needs.{needs}
@@ -16,18 +17,18 @@ use Rattle.stride.proofs.take_byte.Statement.{statement}
 use Rattle.stride.proofs.take_byte.Tie as tie
 
 -- from a place of the code back to its start
-abbrev start : tie.After-step-by → tie.Start
+abbrev start : tie.After-step → tie.Start
 start l = l .before .before .before .before .before .before .before
 
 -- there is a byte
-inside : (l : tie.After-step-by) → start l .args .p .at < length (start l .args .file .now)
+inside : (l : tie.After-step) → start l .args .p .at < length (start l .args .file .now)
 inside l = omega (arith, l .before .before .if1 .left)
 
 -- what the code's answer says of the byte
 does :
-    (l : tie.After-step-by) {s : Stepped} → l .step-by .result ≡ s → let a = start l .args in
+    (l : tie.After-step) {s : Stepped} → l .step .result ≡ s → let a = start l .args in
     Does (dialect (a .delimiter) (a .leniencies)) (a .file .now) (a .p) (actOf s)
-does l e = sym (l .step-by .ensures) ∙ ap actOf e
+does l e = sym (act-back _ _ _) ∙ ap actOf (sym (l .step .ensures) ∙ e)
 
 returns : tie.Need-returns
 returns c = (wrote-none, λ m n. absurd (omega (arith, c .if1 .taken)))
@@ -35,8 +36,8 @@ returns c = (wrote-none, λ m n. absurd (omega (arith, c .if1 .taken)))
 shared-slice-read-b : tie.Need-shared-slice-read-b
 shared-slice-read-b c = search needs
 
-step-by-requires : tie.Need-step-by-requires
-step-by-requires c κs = search needs
+step-requires : tie.Need-step-requires
+step-requires c κs = search needs
 
 enum-told : tie.Need-enum-told
 enum-told c = search needs
@@ -166,7 +167,7 @@ take-byte-spec =
     (tie.spec
     returns
     shared-slice-read-b
-    step-by-requires
+    step-requires
     enum-told
     stopped-requires
     enum-known-s

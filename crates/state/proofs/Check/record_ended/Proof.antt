@@ -1,8 +1,8 @@
 -- `state::Check::record_ended` meets its contract.
-use mathlib.Core.Path.{_≡_}
+use mathlib.Core.Path.{_≡_, sym, _∙_}
 use mathlib.Core.Bool.{true, _||_, or-true}
 use mathlib.Core.Logic.{⊎-elim}
-use borrow.Author.Tests.{eq-eqb, ne-eqb, le-leb, lt-leb, not-true, not-false}
+use borrow.Author.Tests.{le-leb, lt-leb, not-true, not-false}
 use Rattle.format.specs.Dialect.{ragged, names}
 use Rattle.state.specs.Check.{evenly, recordEnded}
 use Rattle.state.proofs.Check.record_ended.Statement.{statement}
@@ -13,7 +13,7 @@ allowed : (c : tie.Joined2) → let a = c .before .before .before .before .befor
 allowed c =
     let d = c .before in
     ⊎-elim
-    (λ w. rw (eq-eqb _ _ (w .2 .left)))
+    (λ w. rw (sym (w .1 .ensures) ∙ not-false (w .1 .result) (w .2 .left)))
     (λ w. rw (rw (d .as-wide .ensures, d .before .plus .ensures) at (not-false (d .as-wide .result) (w .left)), or-true))
     (c .if2 .came)
 
@@ -30,6 +30,9 @@ plus-requires c κs = tt
 as-wide-requires : tie.Need-as-wide-requires
 as-wide-requires c κs = tt
 
+allows-ragged-requires : tie.Need-allows-ragged-requires
+allows-ragged-requires c κs = tt
+
 stopped-requires-2 : tie.Need-stopped-requires-2
 stopped-requires-2 c κs = tt
 
@@ -39,7 +42,8 @@ returns-2 c =
     let a = c .before .before .before in
     let d = a .before in
     let uneven = rw (d .as-wide .ensures, d .before .plus .ensures) at (not-true (d .as-wide .result) (a .if2 .taken)) in
-    rw (c .stopped2 .ensures, le-leb _ _ (d .before .before .if1 .left), ne-eqb _ _ (c .before .if3 .taken), uneven)
+    let off = sym (c .before .before .allows-ragged .ensures) ∙ not-true (c .before .before .allows-ragged .result) (c .before .if3 .taken) in
+    rw (c .stopped2 .ensures, le-leb _ _ (d .before .before .if1 .left), off, uneven)
 
 at-end-requires : tie.Need-at-end-requires
 at-end-requires c κs = tt
@@ -77,6 +81,7 @@ record-ended-spec =
     returns
     plus-requires
     as-wide-requires
+    allows-ragged-requires
     stopped-requires-2
     returns-2
     at-end-requires

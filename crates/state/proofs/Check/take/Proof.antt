@@ -1,5 +1,4 @@
 -- `state::Check::take` meets its contract.
-use native.Mathlib.Nat.{div-one}
 use borrow.Author.Tests.{eq-eqb, ne-eqb}
 use borrow.Author.Needs.{needs}
 use Rattle.state.specs.Check.{fed}
@@ -16,12 +15,6 @@ returns : tie.Need-returns
 unfolding fed
 returns c = rw (c .placed .ensures, c .before .before .before .moved .ensures, ne-eqb _ _ (c .before .if1 .taken))
 
-table-requires : tie.Need-table-requires
-table-requires c κs = search needs
-
-class-of-requires : tie.Need-class-of-requires
-class-of-requires c κs = search needs
-
 step-requires : tie.Need-step-requires
 step-requires c κs = search needs
 
@@ -37,18 +30,14 @@ placed-requires-2 c κs = search needs
 returns-2 : tie.Need-returns-2
 unfolding fed
 returns-2 c =
-    let d = c .before .before .before .before .before in
-    let e = d .before .before in
+    let d = c .before .before .before in
     rw (
       c .placed2 .ensures,
       c .before .stepped .ensures,
       c .before .before .noted .ensures,
-      c .before .before .before .step .ensures,
-      d .class-of .ensures,
-      e .table .ensures,
-      e .before .before .before .moved .ensures,
-      eq-eqb _ _ (e .before .if1 .left),
-      div-one,
+      d .step .ensures,
+      d .before .before .before .moved .ensures,
+      eq-eqb _ _ (d .before .if1 .left),
     )
 
 pub take-spec : {M : Type 1} → statement M
@@ -58,8 +47,6 @@ take-spec =
     moved-requires
     placed-requires
     returns
-    table-requires
-    class-of-requires
     step-requires
     noted-requires
     stepped-requires
