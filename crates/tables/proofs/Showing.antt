@@ -1,5 +1,5 @@
 -- Showing a field: the arithmetic of its place, and the laws that any two outcomes coincide.
-use Prim.Native.Nat.{ℕ, _+_, _-_, _≤_, _<_}
+use Prim.Native.Nat.{ℕ, _+_, _-_, _≤_, _<_, min}
 use native.Mathlib.Omega.{arith}
 use mathlib.Core.Path.{_≡_, refl, sym, ap, subst, _∙_}
 use mathlib.Core.List.{List, [], _∷_}
@@ -8,7 +8,7 @@ use Rattle.format.specs.declared.Part.{Part}
 use Rattle.format.specs.Table.{Bytes}
 use Rattle.format.specs.Memory.{WellFormed, tableOf, startOf, parts, partOf}
 use Rattle.format.specs.Answer.{partNumbers}
-use Rattle.format.proofs.Memory.{table-length, row-within, end-within, field-at, record-width, field-part, part-from, part-length}
+use Rattle.format.proofs.Memory.{table-length, records-most, row-within, end-within, field-at, record-width, field-part, part-from, part-length}
 use Rattle.format.proofs.Numbers.{one-part-numbers}
 use Rattle.tables.specs.Shown.{Has, Lacks, malformed, no-record, no-column, Shown, Numbered, numbered, Located, lies}
 
@@ -103,3 +103,23 @@ module _ {text : Bytes} {ends rows : List ℕ} {r c : ℕ} where
 
   pub one-located : (x y : Part) → Located text ends rows r c (partNumbers x) → Located text ends rows r c (partNumbers y) → x ≡ y
   one-located x y p q = one-part-numbers x y (one-place p q)
+
+-- where no row is above b, no record and no column has a number of b or more: greater numbers may be taken for b
+module _ {text : Bytes} {ends rows : List ℕ} (b : ℕ) (most : (i : ℕ) → getD rows i 0 ≤ b) where
+  same-record : (r : ℕ) → WellFormed text ends rows → min r b < length (tableOf text ends rows) → min r b ≡ r
+  same-record r w h = omega (arith, h, records-most w b most, table-length text ends rows)
+
+  same-column : (r c : ℕ) → Has text ends rows (min r b) (min c b) → min c b ≡ c
+  same-column r c h = omega (arith, h .column-in, record-width (h .formed) (min r b) (row-in h), most (min r b))
+
+  lacks-clamped : {r c : ℕ} → Lacks text ends rows (min r b) (min c b) → Lacks text ends rows r c
+  lacks-clamped (malformed n) = malformed n
+  lacks-clamped (no-record w l) = no-record w (omega (arith, l))
+  lacks-clamped {r} {c} (no-column w l m) = subst (λ (x : ℕ). Lacks text ends rows x c) (same-record r w l) (no-column w l (omega (arith, m)))
+
+  pub located-clamped : {r c : ℕ} {l : List ℕ} → Located text ends rows (min r b) (min c b) l → Located text ends rows r c l
+  located-clamped {r} {c} (lies h) =
+      let d = same-record r (h .formed) (h .record-in) in
+      let e = same-column r c h in
+      rw (d, e) (lies (rw (d, e) at h))
+  located-clamped (Located.absent n) = Located.absent (lacks-clamped n)

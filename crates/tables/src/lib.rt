@@ -1,8 +1,9 @@
 // Tables in memory: text, ends and rows, as the reader writes them.
-use format::ByteOffset;
 use format::FieldNumber;
 use format::Found;
 use format::Part;
+use format::RecordNumber;
+use format::TextIndex;
 ghost use mathlib.Core.Path.{_≡_};
 ghost use mathlib.Core.List.{[]};
 ghost use Prim.Native.Nat.{_≤_, _<_};
@@ -29,11 +30,11 @@ pub fn show<'a>(
     text: &'a [u8],
     ends: &[u32],
     rows: &[u32],
-    record: usize,
-    column: usize,
+    record: RecordNumber,
+    column: FieldNumber,
     stand_in: &'a [u8],
 ) -> &'a [u8]
-    ensures { λ r. ⌜ Shown (now (text .entry)) (now (ends .entry)) (now (rows .entry)) «record» column (now («stand_in» .entry)) (now r) ⌝ }
+    ensures { λ r. ⌜ Shown (now (text .entry)) (now (ends .entry)) (now (rows .entry)) («record» .0) (column .0) (now («stand_in» .entry)) (now r) ⌝ }
 {
     let k = field_number(text, ends, rows, record, column);
     if ends.len() <= k {
@@ -43,8 +44,14 @@ pub fn show<'a>(
 }
 
 // Where that field lies in text, for a caller to whom no part can be handed out.
-pub fn locate(text: &[u8], ends: &[u32], rows: &[u32], record: usize, column: usize) -> Part
-    ensures { λ r. ⌜ Located (now (text .entry)) (now (ends .entry)) (now (rows .entry)) «record» column (partNumbers r) ⌝ }
+pub fn locate(
+    text: &[u8],
+    ends: &[u32],
+    rows: &[u32],
+    record: RecordNumber,
+    column: FieldNumber,
+) -> Part
+    ensures { λ r. ⌜ Located (now (text .entry)) (now (ends .entry)) (now (rows .entry)) («record» .0) (column .0) (partNumbers r) ⌝ }
 {
     let k = field_number(text, ends, rows, record, column);
     if ends.len() <= k {
@@ -52,26 +59,34 @@ pub fn locate(text: &[u8], ends: &[u32], rows: &[u32], record: usize, column: us
     }
     let first = start_of(ends, k) as u32;
     let length = ends[k] - first;
-    Part::Lies(ByteOffset(first), length)
+    Part::Lies(TextIndex(first), length)
 }
 
 // The number of that field in the whole table; or the number of fields, where the table is malformed
 // or has no such place.
-fn field_number(text: &[u8], ends: &[u32], rows: &[u32], record: usize, column: usize) -> usize
-    ensures { λ r. ⌜ Numbered (now (text .entry)) (now (ends .entry)) (now (rows .entry)) «record» column r ⌝ }
+fn field_number(
+    text: &[u8],
+    ends: &[u32],
+    rows: &[u32],
+    record: RecordNumber,
+    column: FieldNumber,
+) -> usize
+    ensures { λ r. ⌜ Numbered (now (text .entry)) (now (ends .entry)) (now (rows .entry)) («record» .0) (column .0) r ⌝ }
 {
     if !is_well_formed(text, ends, rows) {
         return ends.len();
     }
-    if rows.len() <= record {
+    let r = record.0 as usize;
+    let c = column.0 as usize;
+    if rows.len() <= r {
         return ends.len();
     }
-    let first = start_of(rows, record);
-    let next = rows[record] as usize;
-    if next - first <= column {
+    let first = start_of(rows, r);
+    let next = rows[r] as usize;
+    if next - first <= c {
         return ends.len();
     }
-    first + column
+    first + c
 }
 
 // The column, from 0, whose whole name in the header is the name, byte for byte; or why there is none to

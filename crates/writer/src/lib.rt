@@ -14,8 +14,9 @@ ghost use Rattle.format.specs.Filling.{over};
 ghost use Rattle.writer.specs.Form.{quotes, formIn};
 ghost use Rattle.writer.specs.Seek.{Sought, Outside};
 ghost use Rattle.writer.specs.Write.{Forbidden, WriteOutcome};
-use format::ByteOffset;
 use format::FieldNumber;
+use format::RecordNumber;
+use format::TextIndex;
 use format::Written;
 
 // Writes a table as a strict file, plain in mode 0 and full in mode 1: the file from the front of out,
@@ -31,7 +32,7 @@ pub fn write(text: &[u8], ends: &[u32], rows: &[u32], mode: u8, out: &mut [u8]) 
     }
     let forbidden = first_forbidden(text);
     if forbidden < text.len() {
-        return Written::Forbidden(ByteOffset(forbidden as u32));
+        return Written::Forbidden(TextIndex(forbidden as u32));
     }
     let long = first_outside(ends, 0, format::CONTENT_LIMIT as usize);
     if long < ends.len() {
@@ -39,7 +40,7 @@ pub fn write(text: &[u8], ends: &[u32], rows: &[u32], mode: u8, out: &mut [u8]) 
     }
     let uneven = first_uneven(rows);
     if uneven < rows.len() {
-        return Written::Uneven(uneven as u32);
+        return Written::Uneven(RecordNumber(uneven as u32));
     }
     write_holdable(text, ends, rows, mode, out)
 }
