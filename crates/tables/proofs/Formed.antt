@@ -2,15 +2,18 @@
 use Prim.Native.Nat.{ℕ, _+_, _≤_, _<_}
 use native.Mathlib.Omega.{arith}
 use mathlib.Core.Path.{_≡_, refl, sym, _∙_}
-use mathlib.Core.Bool.{Bool, true, false, cond, true≢false}
+use mathlib.Core.Bool.{Bool, true, false, true≢false}
+use mathlib.Core.Logic.{_↔_}
 use mathlib.Core.List.{List, [], _∷_}
-use lib.Dec.{leb}
+use lib.Dec.{eqb}
 use lib.ListN.{length, getD}
-use borrow.Author.Tests.{leb-true, le-leb, eq-eqb, eqb-true}
+use borrow.Author.Tests.{eq-eqb, eqb-true}
 use Rattle.format.specs.Table.{Bytes, lastOf}
-use Rattle.format.specs.Memory.{Ordered, WellFormed, startOf}
+use Rattle.format.specs.Memory.{WellFormed, startOf}
 use Rattle.format.proofs.Memory.{last-nil, last-first, well-formed, entry-within}
-use Rattle.tables.specs.Formed.{Decides, Cuts, runsTo}
+use Rattle.tables.specs.Formed.{Decides, Cuts}
+use Rattle.tables.specs.Seek.{Sought, Strays, paired}
+use Rattle.tables.proofs.Distances.{in-order, out-of-order}
 
 module _ {A : Type 0} where
   pub affirms : A → Decides true A
@@ -19,43 +22,42 @@ module _ {A : Type 0} where
   pub refutes : (A → ⊥) → Decides false A
   refutes n = record { if-true = λ h. absurd (true≢false (sym h)); if-false = λ h. n }
 
--- over any order that a gap decides
-module _ (R : ℕ → ℕ → Type 0) (gap : ℕ) (from : (n m : ℕ) → n + gap ≤ m → R n m) (back : (n m : ℕ) → R n m → n + gap ≤ m) (end : ℕ) where
-  pub runs : (n : ℕ) (l : List ℕ) → runsTo gap end n l ≡ true → Ordered R n l × (lastOf n l ≡ end)
-  unfolding runsTo
-  runs n [] e = (tt, last-nil n ∙ eqb-true n end e)
-  runs n (m ∷ l) e = rw (last-first n m l) (go (leb (n + gap) m) refl e (runs m l))
-    where
-      go :
-          (x : Bool) → leb (n + gap) m ≡ x → cond x (runsTo gap end m l) false ≡ true
-          → (runsTo gap end m l ≡ true → Ordered R m l × (lastOf m l ≡ end)) → (R n m × Ordered R m l) × (lastOf m l ≡ end)
-      go true h i k = let (o, j) = k i in ((from n m (leb-true (n + gap) m h), o), j)
-      go false h i k = absurd (true≢false (sym i))
+-- an entry behind the last would begin at the last
+last-start : (n : ℕ) (l : List ℕ) → getD (n ∷ l) (length l) 0 ≡ lastOf n l
+last-start n [] = sym (last-nil n)
+last-start n (m ∷ l) = last-start m l ∙ sym (last-first n m l)
 
-  pub runs-back : (n : ℕ) (l : List ℕ) → Ordered R n l → lastOf n l ≡ end → runsTo gap end n l ≡ true
-  unfolding runsTo
-  runs-back n [] o e = eq-eqb n end (sym (last-nil n) ∙ e)
-  runs-back n (m ∷ l) (h, o) e = rw (le-leb (n + gap) m (back n m h)) (runs-back m l o (sym (last-first n m l) ∙ e))
+rises : (n m : ℕ) → (n + 1 ≤ m) ↔ (n < m)
+rises n m = (λ h. omega arith, λ h. omega arith)
 
-module _ {text : Bytes} {ends rows : List ℕ} where
-  formed : runsTo 1 (length ends) 0 rows ≡ true → runsTo 0 (length text) 0 ends ≡ true → WellFormed text ends rows
-  formed h i =
-      let (o, e) = runs _<_ 1 (λ n m k. omega arith) (λ n m k. omega arith) (length ends) 0 rows h in
-      let (p, q) = runs _≤_ 0 (λ n m k. omega arith) (λ n m k. omega arith) (length text) 0 ends i in
-      well-formed o e p q
+never-falls : (n m : ℕ) → (n + 0 ≤ m) ↔ (n ≤ m)
+never-falls n m = (λ h. omega arith, λ h. omega arith)
 
-  rises-back : WellFormed text ends rows → runsTo 1 (length ends) 0 rows ≡ true
-  rises-back w = runs-back _<_ 1 (λ n m k. omega arith) (λ n m k. omega arith) (length ends) 0 rows (w .rows-rise) (w .last-row)
+module _ {text : Bytes} {ends rows : List ℕ} (most : ℕ) where
+  pub not-rising :
+      {k : ℕ} → ((i : ℕ) → getD rows i 0 ≤ most) → Sought (Strays 1 most) (paired 0 rows) k → k < length rows → Decides false (WellFormed text ends rows)
+  not-rising f s h = refutes (λ w. out-of-order _<_ 1 most rises 0 rows s f h (w .rows-rise))
 
-  fits-back : WellFormed text ends rows → runsTo 0 (length text) 0 ends ≡ true
-  fits-back w = runs-back _≤_ 0 (λ n m k. omega arith) (λ n m k. omega arith) (length text) 0 ends (w .ends-never-fall) (w .last-end)
-
-  pub not-rising : runsTo 1 (length ends) 0 rows ≡ false → Decides false (WellFormed text ends rows)
-  not-rising e = refutes (λ w. true≢false (sym (rises-back w) ∙ e))
+  pub falling :
+      {k : ℕ} → ((i : ℕ) → getD ends i 0 ≤ most) → Sought (Strays 0 most) (paired 0 ends) k → k < length ends → Decides false (WellFormed text ends rows)
+  falling f s h = refutes (λ w. out-of-order _≤_ 0 most never-falls 0 ends s f h (w .ends-never-fall))
 
   pub decides :
-      {r : Bool} → runsTo 1 (length ends) 0 rows ≡ true → r ≡ runsTo 0 (length text) 0 ends → Decides r (WellFormed text ends rows)
-  decides h e = record { if-true = λ i. formed h (sym e ∙ i); if-false = λ i w. true≢false (sym (fits-back w) ∙ (sym e ∙ i)) }
+      {j k m n : ℕ}
+      → Sought (Strays 1 most) (paired 0 rows) j → length rows ≤ j → m ≡ startOf rows (length rows) → m ≡ length ends
+      → Sought (Strays 0 most) (paired 0 ends) k → length ends ≤ k → n ≡ startOf ends (length ends)
+      → Decides (eqb n (length text)) (WellFormed text ends rows)
+  decides {j} {k} {m} {n} r h d p s i e =
+      record {
+        if-true = λ q.
+            well-formed (in-order _<_ 1 most rises 0 rows r h) (sym (last-start 0 rows) ∙ sym d ∙ p)
+            (in-order _≤_ 0 most never-falls 0 ends s i) (sym (last-start 0 ends) ∙ sym e ∙ eqb-true n (length text) q);
+        if-false = λ q w. true≢false (sym (eq-eqb n (length text) (e ∙ last-start 0 ends ∙ w .last-end)) ∙ q);
+      }
+
+module _ {text : Bytes} {ends rows : List ℕ} where
+  pub other-last : {n : ℕ} → n ≡ startOf rows (length rows) → (n ≡ length ends → ⊥) → Decides false (WellFormed text ends rows)
+  other-last e h = refutes (λ w. h (e ∙ last-start 0 rows ∙ w .last-row))
 
   pub cuts : WellFormed text ends rows → Cuts text ends
   cuts w = record { ends-never-fall = w .ends-never-fall; last-end = w .last-end }

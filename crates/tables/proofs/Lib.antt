@@ -1,3 +1,5 @@
+pub mod Distances
 pub mod Formed
 pub mod Searching
+pub mod Seeking
 pub mod Showing

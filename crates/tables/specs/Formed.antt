@@ -1,9 +1,8 @@
 -- The tests on a table in memory.
-use Prim.Native.Nat.{ℕ, _+_, _≤_}
+use Prim.Native.Nat.{ℕ, _≤_}
 use mathlib.Core.Path.{_≡_}
-use mathlib.Core.Bool.{Bool, true, false, cond}
-use mathlib.Core.List.{List, [], _∷_}
-use lib.Dec.{eqb, leb}
+use mathlib.Core.Bool.{Bool, true, false}
+use mathlib.Core.List.{List}
 use lib.ListN.{length}
 use Rattle.format.specs.Table.{Bytes, lastOf}
 use Rattle.format.specs.Memory.{Ordered}
@@ -12,11 +11,6 @@ use Rattle.format.specs.Memory.{Ordered}
 pub record Decides (r : Bool) (A : Type 0) : Type 0 where
   pub if-true : r ≡ true → A
   pub if-false : r ≡ false → A → ⊥
-
--- each number is at least the gap above the one before it, the first above n, and the last is the end
-unfoldable pub runsTo : ℕ → ℕ → ℕ → List ℕ → Bool
-runsTo gap end n [] = eqb n end
-runsTo gap end n (m ∷ l) = cond (leb (n + gap) m) (runsTo gap end m l) false
 
 -- ends that cut the text into fields: they never fall, and the last is its length
 pub record Cuts (text : Bytes) (ends : List ℕ) : Type 0 where

@@ -1,3 +1,4 @@
 pub mod Formed
 pub mod Search
+pub mod Seek
 pub mod Shown

@@ -10,18 +10,49 @@ ghost use Prim.Native.Nat.{_≤_, _<_};
 ghost use lib.ListN.{length, getD};
 ghost use Rattle.format.specs.Memory.{WellFormed, parts, startOf};
 ghost use Rattle.format.specs.Answer.{searchNumbers, partNumbers};
-ghost use Rattle.tables.specs.Formed.{Decides, Cuts, runsTo};
+ghost use Rattle.tables.specs.Formed.{Decides, Cuts};
+ghost use Rattle.tables.specs.Seek.{Sought, Strays, paired};
 ghost use Rattle.tables.specs.Shown.{Shown, Located, Numbered};
 ghost use Rattle.tables.specs.Search.{Searched, Repeats, Named, Least};
+
+// No two entries are further apart than this.
+const ANY_DISTANCE: u32 = 4294967295;
 
 // Whether three slices are a well formed table.
 pub fn is_well_formed(text: &[u8], ends: &[u32], rows: &[u32]) -> bool
     ensures { λ r. ⌜ Decides r (WellFormed (now (text .entry)) (now (ends .entry)) (now (rows .entry))) ⌝ }
 {
-    if !runs_to(rows, 1, ends.len()) {
+    if first_outside(rows, 1, ANY_DISTANCE) < rows.len() {
         return false;
     }
-    runs_to(ends, 0, text.len())
+    if start_of(rows, rows.len()) != ends.len() {
+        return false;
+    }
+    if first_outside(ends, 0, ANY_DISTANCE) < ends.len() {
+        return false;
+    }
+    start_of(ends, ends.len()) == text.len()
+}
+
+// The first entry whose distance from the one before it, or from 0, is below the least or above the
+// most; or the length. The entries may fall: one below that before it is below any least.
+pub fn first_outside(list: &[u32], least: u32, most: u32) -> usize
+    ensures { λ r. ⌜ Sought (Strays least most) (paired 0 (now (list .entry))) r ⌝ }
+{
+    let mut at: usize = 0;
+    let mut i = 0;
+    while i < list.len() {
+        let next = list[i] as usize;
+        if next < at + least as usize {
+            return i;
+        }
+        if at + (most as usize) < next {
+            return i;
+        }
+        at = next;
+        i += 1;
+    }
+    i
 }
 
 // The field of a record and a column, both from 0, as a part of text; or the stand-in, where the table
@@ -178,29 +209,10 @@ fn same(a: &[u8], b: &[u8]) -> bool
     true
 }
 
-// Where entry k begins: at the entry before it, or at 0.
+// Where entry k begins, or one behind the last: at the entry before it, or at 0.
 fn start_of(list: &[u32], k: usize) -> usize
-    requires { ⌜ k < length (now list) ⌝ }
+    requires { ⌜ k ≤ length (now list) ⌝ }
     ensures { λ r. ⌜ r ≡ startOf (now (list .entry)) k ⌝ }
 {
     if k == 0 { 0 } else { list[k - 1] as usize }
-}
-
-// Whether each entry is at least the gap above the one before it, the first above 0, and the last is the
-// end.
-fn runs_to(list: &[u32], gap: usize, end: usize) -> bool
-    requires { ⌜ gap ≤ 1 ⌝ }
-    ensures { λ r. ⌜ r ≡ runsTo gap end 0 (now (list .entry)) ⌝ }
-{
-    let mut at: usize = 0;
-    let mut i = 0;
-    while i < list.len() {
-        let next = list[i] as usize;
-        if next < at + gap {
-            return false;
-        }
-        at = next;
-        i += 1;
-    }
-    at == end
 }

@@ -3,5 +3,4 @@ pub mod Content
 pub mod Demands
 pub mod Fields
 pub mod Outcomes
-pub mod Seeking
 pub mod Walking

@@ -1,36 +1,27 @@
 -- From what the searches and the two passes find to the outcome of a write.
 use Prim.Native.Nat.{ℕ, zero, suc, _≤_, _<_}
 use native.Mathlib.Omega.{arith}
-use mathlib.Core.Path.{_≡_, refl, sym, ap, subst, _∙_}
+use mathlib.Core.Path.{_≡_, refl, ap, _∙_}
 use mathlib.Core.Bool.{Bool, true, false}
 use mathlib.Core.Logic.{inl, inr, _↔_}
 use mathlib.Core.List.{List, flatten}
 use lib.Dec.{eqb, leb}
 use lib.ListN.{length, getD}
 use borrow.Author.Tests.{leb-true, leb-false}
-use Rattle.format.specs.Table.{Bytes, Content, Table, None, First}
+use Rattle.format.specs.Table.{Bytes, Content, Table, None}
 use Rattle.format.specs.Dialect.{strict}
 use Rattle.format.specs.Filling.{over}
 use Rattle.format.specs.House.{contentLimit, fileLimit, widthOf}
-use Rattle.format.specs.Memory.{WellFormed, gaps, tableOf}
+use Rattle.format.specs.Memory.{WellFormed, tableOf}
 use Rattle.format.specs.WrittenForms.{tableBy, CanHold}
-use Rattle.format.proofs.First.{first-inside}
 use Rattle.format.proofs.Holding.{holds}
-use Rattle.format.proofs.Memory.{table-length, memory-back, memory-fields, fields-length, field-lengths, record-lengths, width-at}
+use Rattle.format.proofs.Memory.{table-length, memory-back, memory-fields, fields-length, field-lengths, record-lengths, rising-never-falls, width-at}
+use Rattle.tables.specs.Seek.{Sought, Strays, paired}
+use Rattle.tables.proofs.Distances.{Outside, sought-gaps}
+use Rattle.tables.proofs.Seeking.{is-first, is-none, sought-lengths}
 use Rattle.writer.specs.Form.{formIn}
-use Rattle.writer.specs.Seek.{Sought, Outside}
 use Rattle.writer.specs.Write.{fileIn, Forbidden, TooLong, Differs, refused, accepted, FileOutcome, TableOutcome, WriteOutcome}
 use Rattle.writer.proofs.Fields.{plain-form, full-form}
-use Rattle.writer.proofs.Seeking.{sought-same, sought-lengths}
-
-module _ {A : Type 0} {P : A → Type 0} {l : List A} {k : ℕ} where
-  is-first : Sought P l k → k < length l → First P l k
-  is-first (inl x) h = x
-  is-first (inr (n, e)) h = absurd (omega arith)
-
-  is-none : Sought P l k → length l ≤ k → None P l
-  is-none (inl x) h = absurd (omega (arith, first-inside x))
-  is-none (inr (n, e)) h = n
 
 too-long : (c : Content) → Outside 0 contentLimit (length c) ↔ TooLong c
 too-long c = (there, inr)
@@ -57,35 +48,34 @@ module _ {text : Bytes} {ends rows : List ℕ} (w : WellFormed text ends rows) w
   pub by-3 : {mode k : ℕ} {out : Bytes} → mode ≤ 1 → Sought Forbidden text k → k < length text → WriteOutcome text ends rows mode out (refused 3 k) out
   by-3 m s h = WriteOutcome.well-formed m w (TableOutcome.refusal-3 (is-first s h))
 
-  contents : {k : ℕ} → Sought (Outside 0 contentLimit) (gaps 0 ends) k → Sought TooLong (flatten (tableOf text ends rows)) k
+  contents : {k : ℕ} → Sought (Strays 0 contentLimit) (paired 0 ends) k → Sought TooLong (flatten (tableOf text ends rows)) k
   contents {k} s =
-      sought-same TooLong too-long (flatten (tableOf text ends rows)) k
-      (sought-lengths (Outside 0 contentLimit) (flatten (tableOf text ends rows)) k
-      (subst (λ (l : List ℕ). Sought (Outside 0 contentLimit) l k) (sym (field-lengths w)) s))
+      sought-lengths (Outside 0 contentLimit) TooLong too-long (flatten (tableOf text ends rows)) k
+      (rw (field-lengths w) (sought-gaps 0 contentLimit 0 ends (w .ends-never-fall) s))
 
-  records : {k : ℕ} → Sought (Outside (getD rows 0 0) (getD rows 0 0)) (gaps 0 rows) k → Sought (Differs (tableOf text ends rows)) (tableOf text ends rows) k
+  records : {k : ℕ} → Sought (Strays (getD rows 0 0) (getD rows 0 0)) (paired 0 rows) k → Sought (Differs (tableOf text ends rows)) (tableOf text ends rows) k
   records {k} s =
-      sought-same (Differs (tableOf text ends rows)) (other-width (widthOf (tableOf text ends rows))) (tableOf text ends rows) k
-      (sought-lengths (Outside (widthOf (tableOf text ends rows)) (widthOf (tableOf text ends rows))) (tableOf text ends rows) k
-      (rw (width-at w, record-lengths w) s))
+      let t = tableOf text ends rows in
+      sought-lengths (Outside (widthOf t) (widthOf t)) (Differs t) (other-width (widthOf t)) t k
+      (rw (width-at w, record-lengths w) (sought-gaps (getD rows 0 0) (getD rows 0 0) 0 rows (rising-never-falls 0 rows (w .rows-rise)) s))
 
   module _ {b : ℕ} (bytes : Sought Forbidden text b) (b-none : length text ≤ b) where
     pub by-9 :
-        {mode k : ℕ} {out : Bytes} → mode ≤ 1 → Sought (Outside 0 contentLimit) (gaps 0 ends) k → k < length ends
+        {mode k : ℕ} {out : Bytes} → mode ≤ 1 → Sought (Strays 0 contentLimit) (paired 0 ends) k → k < length ends
         → WriteOutcome text ends rows mode out (refused 9 k) out
     by-9 m s h = WriteOutcome.well-formed m w (TableOutcome.refusal-9 (is-none bytes b-none) (is-first (contents s) (rw (fields-length w) h)))
 
-    module _ {f : ℕ} (fields : Sought (Outside 0 contentLimit) (gaps 0 ends) f) (f-none : length ends ≤ f) where
+    module _ {f : ℕ} (fields : Sought (Strays 0 contentLimit) (paired 0 ends) f) (f-none : length ends ≤ f) where
       no-long : None TooLong (flatten (tableOf text ends rows))
       no-long = is-none (contents fields) (rw (fields-length w) f-none)
 
       pub by-10 :
-          {mode k : ℕ} {out : Bytes} → mode ≤ 1 → Sought (Outside (getD rows 0 0) (getD rows 0 0)) (gaps 0 rows) k → k < length rows
+          {mode k : ℕ} {out : Bytes} → mode ≤ 1 → Sought (Strays (getD rows 0 0) (getD rows 0 0)) (paired 0 rows) k → k < length rows
           → WriteOutcome text ends rows mode out (refused 10 k) out
       by-10 m s h = WriteOutcome.well-formed m w (TableOutcome.refusal-10 (is-none bytes b-none) no-long (is-first (records s) (rw table-length h)))
 
       pub holdable :
-          {k : ℕ} → Sought (Outside (getD rows 0 0) (getD rows 0 0)) (gaps 0 rows) k → length rows ≤ k → CanHold strict (tableOf text ends rows)
+          {k : ℕ} → Sought (Strays (getD rows 0 0) (getD rows 0 0)) (paired 0 rows) k → length rows ≤ k → CanHold strict (tableOf text ends rows)
       holdable s h =
           holds strict (tableOf text ends rows) (memory-fields w) (rw (memory-back w .0) (is-none bytes b-none)) no-long
           (is-none (records s) (rw table-length h))

@@ -8,11 +8,11 @@ ghost use lib.ListN.{length, getD};
 ghost use lib.Seq.{slice, sets};
 ghost use Rattle.format.specs.Dialect.{strict};
 ghost use Rattle.format.specs.Answer.{writerNumbers};
-ghost use Rattle.format.specs.Memory.{Ordered, WellFormed, gaps, tableOf};
+ghost use Rattle.format.specs.Memory.{WellFormed, tableOf};
 ghost use Rattle.format.specs.WrittenForms.{isSpecial, doubled, tableBy, CanHold};
 ghost use Rattle.format.specs.Filling.{over};
+ghost use Rattle.tables.specs.Seek.{Sought, Strays, paired};
 ghost use Rattle.writer.specs.Form.{quotes, formIn};
-ghost use Rattle.writer.specs.Seek.{Sought, Outside};
 ghost use Rattle.writer.specs.Write.{Forbidden, WriteOutcome};
 use format::FieldNumber;
 use format::RecordNumber;
@@ -34,7 +34,7 @@ pub fn write(text: &[u8], ends: &[u32], rows: &[u32], mode: u8, out: &mut [u8]) 
     if forbidden < text.len() {
         return Written::Forbidden(TextIndex(forbidden as u32));
     }
-    let long = first_outside(ends, 0, format::CONTENT_LIMIT as usize);
+    let long = tables::first_outside(ends, 0, format::CONTENT_LIMIT);
     if long < ends.len() {
         return Written::LongContent(FieldNumber(long as u32));
     }
@@ -77,38 +77,15 @@ fn first_forbidden(text: &[u8]) -> usize
     i
 }
 
-// The first entry whose distance from the one before it, or from 0, is below the least or above the
-// most; or the length.
-fn first_outside(list: &[u32], least: usize, most: usize) -> usize
-    requires { ⌜ Ordered _≤_ 0 (now list) × (least ≤ 4294967295) × (most ≤ 4294967295) ⌝ }
-    ensures { λ r. ⌜ Sought (Outside least most) (gaps 0 (now (list .entry))) r ⌝ }
-{
-    let mut at: usize = 0;
-    let mut i = 0;
-    while i < list.len() {
-        let next = list[i] as usize;
-        if next < at + least {
-            return i;
-        }
-        if at + most < next {
-            return i;
-        }
-        at = next;
-        i += 1;
-    }
-    i
-}
-
 // The first record with another number of fields than record 0, or the number of records.
 fn first_uneven(rows: &[u32]) -> usize
-    requires { ⌜ Ordered _≤_ 0 (now rows) ⌝ }
-    ensures { λ r. ⌜ Sought (Outside (getD (now (rows .entry)) 0 0) (getD (now (rows .entry)) 0 0)) (gaps 0 (now (rows .entry))) r ⌝ }
+    ensures { λ r. ⌜ Sought (Strays (getD (now (rows .entry)) 0 0) (getD (now (rows .entry)) 0 0)) (paired 0 (now (rows .entry))) r ⌝ }
 {
     if rows.len() == 0 {
         return 0;
     }
-    let width = rows[0] as usize;
-    first_outside(rows, width, width)
+    let width = rows[0];
+    tables::first_outside(rows, width, width)
 }
 
 // The length of the file.

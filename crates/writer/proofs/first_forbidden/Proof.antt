@@ -10,9 +10,9 @@ use Rattle.format.specs.Table.{Bytes}
 use Rattle.format.specs.Dialect.{strict, classOf}
 use Rattle.steps.specs.Numbers.{classNumber}
 use Rattle.steps.proofs.Numbers.{forbidden-number}
-use Rattle.writer.specs.Seek.{Sought}
+use Rattle.tables.specs.Seek.{Sought}
+use Rattle.tables.proofs.Seeking.{Further, begin, found, nowhere, pass}
 use Rattle.writer.specs.Write.{Forbidden}
-use Rattle.writer.proofs.Seeking.{Further, begin, found, nowhere, pass}
 use borrow.Author.Needs.{needs}
 use Rattle.writer.proofs.first_forbidden.Statement.{statement}
 use Rattle.writer.proofs.first_forbidden.Tie as tie

@@ -5,7 +5,7 @@ use lib.ListN.{length}
 use denote.Ref.{now}
 use borrow.Author.Tests.{not-true, not-false}
 use Rattle.format.specs.Memory.{WellFormed}
-use Rattle.format.proofs.Memory.{bytes-most, fields-most, records-most, rising-never-falls}
+use Rattle.format.proofs.Memory.{bytes-most, fields-most, records-most}
 use Rattle.writer.specs.Write.{WriteOutcome}
 use Rattle.writer.proofs.Outcomes.{by-3, by-9, by-10, holdable}
 use borrow.Author.Needs.{needs}
@@ -60,11 +60,8 @@ returns-3 c =
     let e = c .before .before in
     by-3 (formed e) (known e) (c .before .first-forbidden .ensures) (c .if3 .taken)
 
-cast-first-outside : tie.Need-cast-first-outside
-cast-first-outside c = search needs
-
 first-outside-requires : tie.Need-first-outside-requires
-first-outside-requires c κs = (formed (c .before .before) .ends-never-fall, omega arith, omega arith)
+first-outside-requires c κs = search needs
 
 cast-t14 : tie.Need-cast-t14
 cast-t14 c = omega (arith, c .if4 .taken, few-fields (c .before .before .before .before))
@@ -76,9 +73,7 @@ returns-4 c =
     by-9 (formed e) (b .before .first-forbidden .ensures) (b .if3 .left) (known e) (c .before .first-outside .ensures) (c .if4 .taken)
 
 first-uneven-requires : tie.Need-first-uneven-requires
-first-uneven-requires c κs =
-    let e = c .before .before .before .before in
-    rising-never-falls 0 (now (begin e .args .rows)) (formed e .rows-rise)
+first-uneven-requires c κs = search needs
 
 cast-t16 : tie.Need-cast-t16
 cast-t16 c = omega (arith, c .if5 .taken, few-records (c .before .before .before .before .before .before))
@@ -119,7 +114,6 @@ write-spec =
     first-forbidden-requires
     cast-t12
     returns-3
-    cast-first-outside
     first-outside-requires
     cast-t14
     returns-4
