@@ -75,8 +75,9 @@ typedef struct {
 
 /*
  * Reads a file in a dialect into text, ends and rows. 1, then 2, then the fault found earliest, at one
- * byte the smallest number (3 to 10), then 11, 12, 13 where a buffer is too small. What is read is handed
- * on with the lengths of the answer (text, fields for ends, records for rows), not of the buffers.
+ * byte the smallest number (3 to 10), then 11, 12, 13 where a buffer is too small: text of the file's
+ * length, ends of one more and rows of the file's length are always enough. What is read is handed on
+ * with the lengths of the answer (text, fields for ends, records for rows), not of the buffers.
  */
 sv_answer sv_read(const uint8_t *file, size_t file_len, uint8_t delimiter, uint8_t leniencies,
                   uint8_t *text, size_t text_len, uint32_t *ends, size_t ends_len, uint32_t *rows,

@@ -26,8 +26,8 @@ mod limit_runs;
 mod malformed;
 #[path = "cases/many_rows.rs"]
 mod many_rows;
-#[path = "cases/paper.rs"]
-mod paper;
+#[path = "cases/examples.rs"]
+mod examples;
 #[path = "cases/random.rs"]
 mod random;
 #[path = "cases/random_files.rs"]
@@ -51,7 +51,7 @@ fn main() -> io::Result<()> {
     laws::hold_of_the_model();
     let out = BufWriter::with_capacity(1 << 16, io::stdout());
     let mut stream = stream::Stream::new(out)?;
-    paper::send(&mut stream)?;
+    examples::send(&mut stream)?;
     short_files::send(&mut stream)?;
     every_byte::send(&mut stream)?;
     dialect_bytes::send(&mut stream)?;

@@ -1,7 +1,7 @@
-//! A model of the rules for buoy list files, written from the paper alone.
+//! A model of the rules for buoy list files, written from the rules alone.
 //!
 //! Nothing here is meant to be fast, and nothing follows the library's code. The reader goes by
-//! the grammar, position by position, notes every fault that it meets, and then lets the paper's
+//! the grammar, position by position, notes every fault that it meets, and then lets the rules'
 //! order choose among them.
 
 pub mod dialect;
@@ -23,7 +23,7 @@ pub const TAB: u8 = 0x09;
 pub const CR: u8 = 0x0D;
 pub const LF: u8 = 0x0A;
 
-/// The paper's refusal numbers.
+/// The rules' refusal numbers.
 pub mod refusal {
     pub const ACCEPTED: u32 = 0;
     pub const BAD_REQUEST: u32 = 1;

@@ -105,7 +105,7 @@ fn accepted(table: &Table, report: u8) -> Answer {
     }
 }
 
-/// The table and the report, or the refusal that comes first by the paper's order.
+/// The table and the report, or the refusal that comes first by the rules' order.
 fn parse(file: &[u8], delimiter: u8, leniencies: u8) -> Result<(Table, u8), Answer> {
     let dialect = match Dialect::of(delimiter, leniencies) {
         None => return Err(Answer::refused(refusal::BAD_REQUEST)),

@@ -1,7 +1,7 @@
-// The paper's list 'Bytes to try', run through the public calls, one line for each case: the file, the
+// The rules' list of bytes to try, run through the public calls, one line for each case: the file, the
 // dialect, the reader's answer and the check's; then the writer's lines. An accepted file shows records,
 // fields, text length and report; a refused one its number, then line, column and byte. The stored
-// output, with which this is compared, has the paper's values.
+// output, with which this is compared, has the rules' values.
 use format::Answer;
 use format::Place;
 use format::Totals;
@@ -183,7 +183,7 @@ fn refused(n: u64) {
     io::write_all(1, b"\n");
 }
 
-// A file in which LF comes only behind CR, each CRLF shown as in the paper.
+// A file in which LF comes only behind CR, each CRLF shown as one sign.
 fn print_file(file: &[u8]) {
     let mut i = 0;
     while i < file.len() {

@@ -1,4 +1,4 @@
--- At strict the dialect grammar is RFC 4180's own, both ways, and so are its readings under the house rules; and strict holds and quotes what 01 says.
+-- At strict the dialect grammar is RFC 4180's own, both ways, and so are its readings under the house rules; and strict holds and quotes what the rules say.
 use Prim.Native.Nat.{ℕ, _≤_}
 use mathlib.Core.Path.{_≡_, refl, sym, subst, _∙_}
 use mathlib.Core.Bool.{Bool, true, false, _||_}
@@ -17,7 +17,7 @@ use Rattle.format.specs.WrittenForms.{isSpecial, holdsSpecial, needsQuot
 use Rattle.format.proofs.Leniencies.{strict-report}
 use Rattle.format.proofs.Classes.{Strict, strict-text, strict-comma, strict-quote, strict-CR, strict-LF, strict-other, strict-class, TextRange, textdata-range, quote-is, CR-is, LF-is, delimiter-is, blank-is, class-quote, class-CR, class-LF, class-delimiter, inside-byte}
 
--- a byte that strict can hold, in 01's words: 0x20-0x7E, CR or LF
+-- a byte that strict can hold, in the rules' words: 0x20-0x7E, CR or LF
 abbrev pub StrictByte : ℕ → Type 0
 StrictByte b = ((0x20 ≤ b) × (b ≤ 0x7E)) ⊎ ((b ≡ 0x0D) ⊎ (b ≡ 0x0A))
 
@@ -57,7 +57,7 @@ module _ (b : ℕ) where
       none (inr (inl q)) (strict-other n c l) = c q
       none (inr (inr q)) (strict-other n c l) = l q
 
--- At strict a field needs quotes exactly where it holds a special byte. That is, by computation, a comma, quote, CR or LF: the rule of 01 for the plain form.
+-- At strict a field needs quotes exactly where it holds a special byte. That is, by computation, a comma, quote, CR or LF: the rule for the plain form.
 pub strict-special : (b : ℕ) → isSpecial strict b ≡ (eqb b 0x2C || (eqb b 0x22 || (eqb b 0x0D || eqb b 0x0A)))
 strict-special b = refl
 

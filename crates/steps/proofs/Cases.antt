@@ -1,4 +1,4 @@
--- The files that 01 marks with a star, each with its answer: one table of cases, and one claim over it.
+-- The rules' examples that are proved, each with its answer: one table of cases, and one claim over it.
 use Prim.Native.Nat.{ℕ}
 use mathlib.Core.Path.{_≡_, refl, subst}
 use mathlib.Core.List.{List, [], _∷_, map, flatten}

@@ -1,4 +1,4 @@
--- The step table of 01, and what one byte does by it. Nothing here is believed: the theorems hold it against the grammar.
+-- The rules' step table, and what one byte does by it. Nothing here is believed: the theorems hold it against the grammar.
 use Prim.Native.Nat.{ℕ}
 use mathlib.Core.Bool.{Bool, true, false, cond, _||_}
 use Rattle.format.specs.Dialect.{Class, text, blank, delimiter, quote, CR, LF, forbidden}

@@ -1,4 +1,4 @@
--- What the column search promises, in the paper's numbers: the refusal, and the place 0, 0 and a column, from 0.
+-- What the column search promises, in the rules' numbers: the refusal, and the place 0, 0 and a column, from 0.
 use Prim.Native.Nat.{ℕ, _<_}
 use mathlib.Core.Path.{_≡_}
 use mathlib.Core.List.{List, [], _∷_}

@@ -26,7 +26,7 @@ TooLong c = contentLimit < length c
 abbrev pub Differs : Table → List Content → Type 0
 Differs t cs = length cs ≡ widthOf t → ⊥
 
--- the paper's numbers: refusal, line, column, byte, written length; line and column are 0, and byte holds an index from 0 or is 0
+-- the rules' numbers: refusal, line, column, byte, written length; line and column are 0, and byte holds an index from 0 or is 0
 abbrev pub refused : ℕ → ℕ → List ℕ
 refused n index = n ∷ 0 ∷ 0 ∷ index ∷ 0 ∷ []
 

@@ -1,4 +1,4 @@
-//! The paper's own examples. Here the answers are the paper's, and the model is held to them.
+//! The rules' own examples. Here the answers are the rules', and the model is held to them.
 
 use crate::model::header::{find_column, Column};
 use crate::model::reader::{check, Answer};
@@ -64,7 +64,7 @@ const FILES: [(&[u8], u8, Says); 20] = [
 ];
 
 pub fn send<W: Write>(stream: &mut Stream<W>) -> io::Result<()> {
-    stream.section("the paper's examples")?;
+    stream.section("the rules' examples")?;
     for (file, leniencies, says) in &FILES {
         assert_eq!(check(file, b',', *leniencies).0, says.answer());
         let rooms = usual(file.len(), 0);
