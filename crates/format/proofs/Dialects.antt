@@ -2,19 +2,21 @@
 use Prim.Native.Nat.{ℕ, suc, _+_, _≤_, _<_}
 use mathlib.Core.Path.{_≡_, refl, sym, ap, ap₂, subst, _∙_}
 use mathlib.Core.Bool.{Bool, true, false, not, _&&_, _||_, true≢false}
-use mathlib.Core.List.{List, [], _∷_}
+use mathlib.Core.List.{List, [], _∷_, flatten}
 use mathlib.Core.Logic.{_⊎_, inl, inr}
 use native.Mathlib.Nat.{le-trans}
 use native.Mathlib.Omega.{arith}
 use lib.Dec.{T, eqb}
-use lib.ListN.{length}
+use lib.ListN.{length, length-append}
 use borrow.Author.Tests.{ne-eqb}
 use Rattle.format.specs.Table.{Bytes, Content, Table, Ending, Every, lastOf}
 use Rattle.format.specs.Dialect.{Leniency, lf, blanks, ragged, bytes, Dialect, Class, text, blank, delimiter, quote, CR, LF, forbidden, classOf}
 use Rattle.format.specs.Grammar.{Blanks, Bare, Inside, padded, Open, Quoted, Field, Record, Break, File}
 use Rattle.format.specs.House.{differs, isRagged, EqualRows, Fits, Allowed}
+use Rattle.format.specs.Memory.{textOf}
 use Rattle.format.specs.Count.{inRecord, inFile, blankCount, dropped, alone, alones, wides, some, uses}
 use Rattle.format.proofs.Classes.{Beside, same, as-text, as-blank, any, beside, quotedClass, quoted-class, inside-byte}
+use Rattle.format.proofs.Memory.{flatten-join}
 use Rattle.format.proofs.Trim.{fitted}
 
 -- delimiter, quote, CR and LF
@@ -82,23 +84,54 @@ unpadded-too d d′ (b ∷ c) n k = go (d′ .allows blanks) refl
     go true e = rw e (rw (k e) at n)
     go false e = rw e
 
--- the records of u have as many fields as those of t, and their contents fit where those of t do
+-- the fields es are as many as cs, their contents are together no longer, and fit where those do
+record Slimmer (cs es : List Content) : Type 0 where
+  pub many : length es ≡ length cs
+  pub shorter : length (flatten es) ≤ length (flatten cs)
+  pub fit : Every Fits cs → Every Fits es
+
+-- each record of u is so beside that of t
 data Shaped : Table → Table → Type 0 where
   none : Shaped [] []
-  more :
-      {cs es : List Content} {t u : Table} → length es ≡ length cs → (Every Fits cs → Every Fits es) → Shaped t u → Shaped (cs ∷ t) (es ∷ u)
+  more : {cs es : List Content} {t u : Table} → Slimmer cs es → Shaped t u → Shaped (cs ∷ t) (es ∷ u)
 
 same-differs : {t u : Table} → Shaped t u → (n : ℕ) → differs n u ≡ differs n t
 same-differs Shaped.none n = refl
-same-differs (Shaped.more m k s) n = rw (m, same-differs s n)
+same-differs (Shaped.more m s) n = rw (m .many, same-differs s n)
 
 same-ragged : {t u : Table} → Shaped t u → isRagged u ≡ isRagged t
 same-ragged Shaped.none = refl
-same-ragged (Shaped.more m k s) = rw m (same-differs s _)
+same-ragged (Shaped.more m s) = rw (m .many) (same-differs s _)
 
 fits-too : {t u : Table} → Shaped t u → Every (Every Fits) t → Every (Every Fits) u
 fits-too Shaped.none z = z
-fits-too (Shaped.more m k s) z = (k (z .0), fits-too s (z .1))
+fits-too (Shaped.more m s) z = (m .fit (z .0), fits-too s (z .1))
+
+-- u needs no more room than t: its text is no longer, and its fields and records are as many
+pub record NoLarger (u t : Table) : Type 0 where
+  pub text : length (textOf u) ≤ length (textOf t)
+  pub fields : length (flatten u) ≡ length (flatten t)
+  pub records : length u ≡ length t
+
+pub as-large : (t : Table) → NoLarger t t
+as-large t = record { text = omega arith; fields = refl; records = refl }
+
+-- the sizes of a table, one record after the other
+larger : (cs : List Content) (t : Table) → (length (textOf (cs ∷ t)) ≡ length (flatten cs) + length (textOf t)) × (length (flatten (cs ∷ t)) ≡ length cs + length (flatten t))
+unfolding flatten
+larger cs t = (ap length (flatten-join cs (flatten t)) ∙ length-append (flatten cs) (textOf t), length-append cs (flatten t))
+
+no-larger : {t u : Table} → Shaped t u → NoLarger u t
+no-larger Shaped.none = as-large []
+no-larger (Shaped.more {cs} {es} {t} {u} m s) =
+    let (a, b) = larger cs t in
+    let (c, e) = larger es u in
+    let n = no-larger s in
+    record {
+      text = omega (arith, a, c, m .shorter, n .text);
+      fields = omega (arith, b, e, m .many, n .fields);
+      records = ap suc (n .records);
+    }
 
 module _ (d d′ : Dialect) where
   blanks-alike :
@@ -155,21 +188,28 @@ module _ (d d′ : Dialect) where
       → Allows d′ blanks (inRecord dropped r) → Alike d d′ f
       → (es : List Content)
       × (s : Record d′ f es g)
-      × (length es ≡ length cs)
-      × (Every Fits cs → Every Fits es)
+      × Slimmer cs es
       × (NoMoreBlanks d d′ → (es ≡ cs) × (inRecord dropped s ≡ inRecord dropped r))
       × Alike d d′ g
-  unfolding inRecord
-  record-alike (Record.one p) n h =
-      let (e, q, l, s, i) = field-alike p n h in
-      (e ∷ [], Record.one q, refl, λ z. (le-trans l (z .0), tt), λ z. (λ i. s z .0 i ∷ [], s z .1), i)
-  record-alike (Record.more p k r) n h =
+  unfolding inRecord flatten
+  record-alike (Record.one {c} p) n h =
+      let (e, q, l, s, i) = field-alike p n h in (
+        e ∷ [],
+        Record.one q,
+        record { many = refl; shorter = omega (arith, l, length-append e [], length-append c []); fit = λ z. (le-trans l (z .0), tt) },
+        λ z. (λ i. s z .0 i ∷ [], s z .1),
+        i,
+      )
+  record-alike (Record.more {c} {cs} p k r) n h =
       let (e, q, l, s, i) = field-alike p (λ z. n (omega arith)) h in
-      let (es, t, m, o, w, j) = record-alike r (λ z. n (omega arith)) (i .1) in (
+      let (es, t, m, w, j) = record-alike r (λ z. n (omega arith)) (i .1) in (
         e ∷ es,
         Record.more q (solid-too tt k (i .0)) t,
-        ap suc m,
-        λ z. (le-trans l (z .0), o (z .1)),
+        record {
+          many = ap suc (m .many);
+          shorter = omega (arith, l, m .shorter, length-append e (flatten es), length-append c (flatten cs));
+          fit = λ z. (le-trans l (z .0), m .fit (z .1));
+        },
         λ z. (λ i. s z .0 i ∷ w z .0 i, λ i. s z .1 i + w z .1 i),
         j,
       )
@@ -189,19 +229,19 @@ module _ (d d′ : Dialect) where
       × (NoMoreBlanks d d′ → (u ≡ t) × (inFile dropped q ≡ inFile dropped p))
   unfolding alones inFile
   file-alike (File.one r) o n h =
-      let (es, s, m, k, w, i) = record-alike r n h in
-      (es ∷ [], File.one s, Shaped.more m k Shaped.none, refl, λ z. (λ i. w z .0 i ∷ [], w z .1))
+      let (es, s, m, w, i) = record-alike r n h in
+      (es ∷ [], File.one s, Shaped.more m Shaped.none, refl, λ z. (λ i. w z .0 i ∷ [], w z .1))
   file-alike (File.ended r b) o n h =
-      let (es, s, m, k, w, i) = record-alike r n h in
+      let (es, s, m, w, i) = record-alike r n h in
       let (b′, a, j) = break-alike b o i in
-      (es ∷ [], File.ended s b′, Shaped.more m k Shaped.none, a, λ z. (λ i. w z .0 i ∷ [], w z .1))
+      (es ∷ [], File.ended s b′, Shaped.more m Shaped.none, a, λ z. (λ i. w z .0 i ∷ [], w z .1))
   file-alike (File.more r b p) o n h =
-      let (es, s, m, k, w, i) = record-alike r (λ z. n (omega arith)) h in
+      let (es, s, m, w, i) = record-alike r (λ z. n (omega arith)) h in
       let (b′, a, j) = break-alike b (λ z. o (omega arith)) i in
       let (u, q, g, c, x) = file-alike p (λ z. o (omega arith)) (λ z. n (omega arith)) j in (
         es ∷ u,
         File.more {t = u} s b′ q,
-        Shaped.more {u = u} m k g,
+        Shaped.more {u = u} m g,
         λ i. a i + c i,
         λ z. (λ i. w z .0 i ∷ x z .0 i, λ i. w z .1 i + x z .1 i),
       )
@@ -233,6 +273,7 @@ module _ (d d′ : Dialect) (v : d′ .delimiterByte ≡ d .delimiterByte) where
       → (u : Table)
       × (q : File d′ f u e)
       × (Allowed d t → Allowed d′ u)
+      × NoLarger u t
       × (uses q lf ≡ uses p lf)
       × (uses q ragged ≡ uses p ragged)
       × (uses q bytes ≡ uses p bytes)
@@ -244,6 +285,7 @@ module _ (d d′ : Dialect) (v : d′ .delimiterByte ≡ d .delimiterByte) where
         u,
         q,
         λ h. record { rows = equal-rows-too s (k ragged); contents = fits-too s (h .contents) },
+        no-larger s,
         ap some a,
         same-ragged s,
         ap some (same-wides f),
@@ -256,6 +298,6 @@ pub same-file :
     → d′ .delimiterByte ≡ d .delimiterByte → ((l : Leniency) → uses p l ≡ true → d′ .allows l ≡ true) → NoMoreBlanks d d′
     → (q : File d′ f t e) × (Allowed d t → Allowed d′ t) × ((l : Leniency) → uses q l ≡ uses p l)
 same-file {d} {d′} {f} {t} {e} p v k o =
-    let (u, q, h, a, b, c, w) = file-too d d′ v p k in
+    let (u, q, h, n, a, b, c, w) = file-too d d′ v p k in
     let same-uses : (l : Leniency) → uses q l ≡ uses p l = elim [ lf ↦ a | blanks ↦ w o .1 | ragged ↦ b | bytes ↦ c ] in
     subst (λ (s : Table). (q : File d′ f s e) × (Allowed d t → Allowed d′ s) × ((l : Leniency) → uses q l ≡ uses p l)) (w o .0) (q, h, same-uses)

@@ -15,7 +15,7 @@ use Rattle.format.specs.House.{isRagged, EqualRows, Allowed}
 use Rattle.format.specs.Count.{inRecord, inFile, blankCount, dropped, alone, alones, wides, some, uses, sumOf, report}
 use Rattle.format.specs.Reading.{Reading}
 use Rattle.format.proofs.Classes.{blank-is, quotedClass, wide, not-wide}
-use Rattle.format.proofs.Dialects.{solid, NoMoreBlanks, file-too, same-file}
+use Rattle.format.proofs.Dialects.{solid, NoMoreBlanks, NoLarger, as-large, file-too, same-file}
 
 -- what holds of no bytes, and stays so with each byte before them that is not forbidden, holds of a file
 module _ (d : Dialect) (P : Bytes → Type 0) (step : (b : ℕ) (f : Bytes) → (classOf d b ≡ forbidden → ⊥) → P f → P (b ∷ f)) where
@@ -210,22 +210,23 @@ blanks-or-not x y a b c (inr e) q = rw (← q, a, b, c, e) (go (x blanks) _ _)
     go true m n = inr (omega arith)
     go false m n = inl refl
 
--- a dialect that allows what the report names reads the file even if it drops more blanks; it reports the same, or "blanks" besides
+-- a dialect that allows what the report names reads the file even if it drops more blanks; it reports the same, or "blanks" besides, and its table needs no
+-- more room
 pub more-lenient :
     (d d′ : Dialect) → d′ .delimiterByte ≡ d .delimiterByte
     → {f : Bytes} {t : Table} {r : ℕ} → Reading d f t r → ((l : Leniency) → names r l ≡ true → d′ .allows l ≡ true)
-    → (u : Table) × (n : ℕ) × Reading d′ f u n × ((n ≡ r) ⊎ (n ≡ r + 2))
-more-lenient d d′ v {t} (Reading.nothing h) k = (t, 0, Reading.nothing h, inl refl)
+    → (u : Table) × (n : ℕ) × Reading d′ f u n × ((n ≡ r) ⊎ (n ≡ r + 2)) × NoLarger u t
+more-lenient d d′ v {t} (Reading.nothing h) k = (t, 0, Reading.nothing h, inl refl, as-large t)
 more-lenient d d′ v {r} (Reading.something p b a q) k =
-    let (u, p′, h, x, y, z, w) = file-too d d′ v p (λ l e. k l (report-names p q l ∙ e)) in
-    (u, report p′, Reading.something p′ b (h a) refl, blanks-or-not (uses p′) (uses p) x y z (go (d .allows blanks) refl (λ o. w o .1)) q)
+    let (u, p′, h, m, x, y, z, w) = file-too d d′ v p (λ l e. k l (report-names p q l ∙ e)) in
+    (u, report p′, Reading.something p′ b (h a) refl, blanks-or-not (uses p′) (uses p) x y z (go (d .allows blanks) refl (λ o. w o .1)) q, m)
   where
     go : (x : Bool) {A : Type 0} → d .allows blanks ≡ x → (NoMoreBlanks d d′ → A) → A ⊎ (uses p blanks ≡ false)
     go true e w = inl (w (λ i. e))
     go false e w = inr (off-unused p a blanks e)
 
--- what strict reads, every comma dialect reads, and reports 0, or 2 where it drops a blank
+-- what strict reads, every comma dialect reads, and reports 0, or 2 where it drops a blank; it needs no more room
 pub strict-lenient :
     (d : Dialect) → d .delimiterByte ≡ 0x2C
-    → {f : Bytes} {t : Table} {r : ℕ} → Reading strict f t r → (u : Table) × (n : ℕ) × Reading d f u n × ((n ≡ 0) ⊎ (n ≡ 2))
+    → {f : Bytes} {t : Table} {r : ℕ} → Reading strict f t r → (u : Table) × (n : ℕ) × Reading d f u n × ((n ≡ 0) ⊎ (n ≡ 2)) × NoLarger u t
 strict-lenient d v g = more-lenient strict d v (rw (strict-report g) at g) (λ l n. absurd (none-named l n))

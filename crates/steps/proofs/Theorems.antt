@@ -11,6 +11,7 @@ use Rattle.format.specs.WrittenForms.{plain}
 use Rattle.format.specs.Refusal.{Refusal}
 use Rattle.format.specs.Reading.{Reading, Accepted, Refused}
 use Rattle.format.proofs.Demand3.{same-plain-same-table}
+use Rattle.format.proofs.Dialects.{NoLarger}
 use Rattle.format.proofs.Leniencies.{report-0-strict, strict-lenient}
 use Rattle.steps.specs.Model.{Verdict, accepts, refuses, model}
 use Rattle.steps.proofs.Verdicts.{reading-verdict, refusal-read, accepted-model, refused-model, Holds, model-holds}
@@ -61,11 +62,11 @@ pub office-auditor : {sum : ℕ} {f : Bytes} {t : Table} → Accepted 0x2C sum f
 office-auditor {sum} a =
     record { valid = (tt, omega arith); short = a .short; reading = report-0-strict (dialect 0x2C sum) refl (a .reading) }
 
--- and what strict accepts, every comma dialect accepts, reporting 0 or 2, with the same table where it reports 0.
+-- and what strict accepts, every comma dialect accepts, reporting 0 or 2, with the same table where it reports 0, and with one that needs no more room.
 pub auditor-office :
     {f : Bytes} {t : Table} {r : ℕ} (sum : ℕ) → sum ≤ 15 → Accepted 0x2C 0 f t r
-    → (u : Table) × (n : ℕ) × Accepted 0x2C sum f u n × ((n ≡ 0) ⊎ (n ≡ 2)) × (n ≡ 0 → u ≡ t)
+    → (u : Table) × (n : ℕ) × Accepted 0x2C sum f u n × ((n ≡ 0) ⊎ (n ≡ 2)) × (n ≡ 0 → u ≡ t) × NoLarger u t
 auditor-office {f} {t} sum h a =
-    let (u, n, x, y) = strict-lenient (dialect 0x2C sum) refl (a .reading) in
+    let (u, n, x, y, z) = strict-lenient (dialect 0x2C sum) refl (a .reading) in
     let same : n ≡ 0 → u ≡ t = λ e. one-reading strict f u t 0 _ (report-0-strict (dialect 0x2C sum) refl (rw e at x)) (a .reading) .0 in
-    (u, n, record { valid = (tt, h); short = a .short; reading = x }, y, same)
+    (u, n, record { valid = (tt, h); short = a .short; reading = x }, y, same, z)
