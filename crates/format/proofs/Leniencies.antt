@@ -165,6 +165,19 @@ sum-names used =
     let is-one : ℕ → Bool = λ n. eqb n 1 in
     elim [ lf ↦ ap is-one a ∙ e₁ | blanks ↦ ap is-one b ∙ e₂ | ragged ↦ ap is-one c ∙ e₃ | bytes ↦ ap is-one e ∙ e₄ ]
 
+-- and is at most 15, as a report is
+sum-most : (used : Leniency → Bool) → sumOf used ≤ 15
+sum-most used =
+    let (w, e₁, h₁, s₁) = digit (used lf) in
+    let (x, e₂, h₂, s₂) = digit (used blanks) in
+    let (y, e₃, h₃, s₃) = digit (used ragged) in
+    let (z, e₄, h₄, s₄) = digit (used bytes) in
+    omega (arith, s₁ 1, s₂ 2, s₃ 4, s₄ 8, h₁, h₂, h₃, h₄)
+
+pub report-most : {d : Dialect} {f : Bytes} {t : Table} {r : ℕ} → Reading d f t r → r ≤ 15
+report-most (Reading.nothing h) = omega arith
+report-most (Reading.something p b a q) = rw (← q) (sum-most (uses p))
+
 -- what the report names is what was used
 report-names :
     {d : Dialect} {f : Bytes} {t : Table} {e : Ending} {r : ℕ} (p : File d f t e) → report p ≡ r → (l : Leniency) → names r l ≡ uses p l
