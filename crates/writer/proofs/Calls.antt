@@ -8,7 +8,6 @@ use lib.Dec.{eqb}
 use lib.ListN.{length, take, getD}
 use lib.Seq.{take-append-seam}
 use Rattle.format.specs.declared.Written.{Written, the-variants.Whole}
-use Rattle.format.specs.declared.Answer.{Answer, the-variants.Taken}
 use Rattle.format.specs.Table.{Bytes, Table, First}
 use Rattle.format.specs.Dialect.{strict}
 use Rattle.format.specs.House.{fileLimit}
@@ -21,11 +20,8 @@ use Rattle.format.proofs.First.{one-first, none-first}
 use Rattle.format.proofs.Forms.{plain-reads, full-reads}
 use Rattle.format.proofs.Holding.{holds-bytes, holds-contents, holds-rows}
 use Rattle.format.proofs.Leniencies.{strict-report}
-use Rattle.format.proofs.Memory.{memory-back, fields-length, table-length}
+use Rattle.format.proofs.Memory.{memory-back}
 use Rattle.format.proofs.Numbers.{one-write-numbers}
-use Rattle.pieces.specs.Answers.{totalsOf}
-use Rattle.reader.specs.Read as reader
-use Rattle.reader.proofs.Calls as reads
 use Rattle.writer.specs.Write.{fileIn, Forbidden, refused, accepted, FileOutcome, TableOutcome, WriteOutcome}
 
 one-file :
@@ -82,6 +78,18 @@ module _ {text : Bytes} {ends rows : List ℕ} {mode : ℕ} {out : Bytes} where
       → WriteOutcome text ends rows mode out (writerNumbers a) x → WriteOutcome text ends rows mode out (writerNumbers b) y → (a ≡ b) × (x ≡ y)
   one-outcome {a} {b} o p = let (e, q) = one-numbers o p in (one-write-numbers a b e, q)
 
+-- a refusal, the first of the numbers, leaves the buffer as it was
+module _ {text : Bytes} {ends rows : List ℕ} {mode : ℕ} {out : Bytes} where
+  pub refused-same : {a : List ℕ} {out′ : Bytes} → WriteOutcome text ends rows mode out a out′ → (getD a 0 0 ≡ 0 → ⊥) → out′ ≡ out
+  refused-same (WriteOutcome.refusal-1 h) n = refl
+  refused-same (WriteOutcome.refusal-14 h m) n = refl
+  refused-same (WriteOutcome.well-formed h w (TableOutcome.refusal-3 x)) n = refl
+  refused-same (WriteOutcome.well-formed h w (TableOutcome.refusal-9 m x)) n = refl
+  refused-same (WriteOutcome.well-formed h w (TableOutcome.refusal-10 m l x)) n = refl
+  refused-same (WriteOutcome.well-formed h w (TableOutcome.holdable i (FileOutcome.refusal-2 k))) n = refl
+  refused-same (WriteOutcome.well-formed h w (TableOutcome.holdable i (FileOutcome.refusal-15 k l))) n = refl
+  refused-same (WriteOutcome.well-formed h w (TableOutcome.holdable i (FileOutcome.whole k l))) n = absurd (n refl)
+
 -- what an accepted write says
 pub record Wrote (text : Bytes) (ends rows : List ℕ) (mode : ℕ) (out : Bytes) (n : ℕ) (out′ : Bytes) : Type 0 where
   pub formed : WellFormed text ends rows
@@ -96,7 +104,7 @@ module _ {A : Type 0} {n m index : ℕ} where
   not-accepted h e = let z : n ≡ 0 = ap (λ (l : List ℕ). getD l 0 0) e in absurd (omega arith)
 
 module _ {text : Bytes} {ends rows : List ℕ} {mode : ℕ} {out : Bytes} {n : ℕ} where
-  wrote : {a : List ℕ} {out′ : Bytes} → WriteOutcome text ends rows mode out a out′ → a ≡ accepted n → Wrote text ends rows mode out n out′
+  pub wrote : {a : List ℕ} {out′ : Bytes} → WriteOutcome text ends rows mode out a out′ → a ≡ accepted n → Wrote text ends rows mode out n out′
   wrote (WriteOutcome.refusal-1 h) e = not-accepted (omega arith) e
   wrote (WriteOutcome.refusal-14 h m) e = not-accepted (omega arith) e
   wrote (WriteOutcome.well-formed h w (TableOutcome.refusal-3 x)) e = not-accepted (omega arith) e
@@ -127,17 +135,3 @@ module _ {text : Bytes} {ends rows : List ℕ} {mode n : ℕ} {out out′ : Byte
         short = rw f (rw (w .size) at (w .short));
         reading = rw f (file-reads mode t (w .holds));
       }
-
-  -- and the reader, given room for them, gives back the three slices that were written
-  pub reads-back-call :
-      {text′ : Bytes} {ends′ rows′ : List ℕ} {a : Answer} {x : Bytes} {y z : List ℕ}
-      → reader.ReadOutcome 0x2C 0 (take n out′) text′ ends′ rows′ a x y z
-      → length text ≤ length text′ → length ends ≤ length ends′ → length rows ≤ length rows′
-      → (a ≡ Taken (totalsOf (tableOf text ends rows) 0)) × (x ≡ over text text′) × (y ≡ over ends ends′) × (z ≡ over rows rows′)
-  reads-back-call {text′} {ends′} {rows′} p h i j =
-      let w = wrote o refl in
-      let m = memory-back (w .formed) in
-      let room : reader.Room (tableOf text ends rows) text′ ends′ rows′ =
-      record { for-text = rw (m .0) h; for-ends = rw (fields-length (w .formed)) i; for-rows = rw table-length j } in
-      let e = reads.one-outcome p (reader.ReadOutcome.filled reads-back room) in
-      (e .0, rw (m .0) at (e .1), rw (m .1) at (e .2), rw (m .2) at (e .3))
