@@ -168,7 +168,7 @@ module _ (c : Check) (a : ℕ) (x : Walk) (e : Check) (o : Opened c a x e) (calm
             delimiter = e .delimiter;
             leniencies = e .leniencies;
             refusal = e .refusal;
-            form = 4;
+            form = formNumber shut;
             begun = 1;
             used = e .used;
             here = along 1 (spot l t n (along 1 (e .here)));
