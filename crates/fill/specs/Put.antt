@@ -6,7 +6,7 @@ use lib.Dec.{leb, ltb}
 use lib.ListN.{set}
 use Rattle.steps.specs.Steps.{start}
 use Rattle.steps.specs.Numbers.{formNumber}
-use Rattle.runs.specs.Words.{largest32}
+use Rattle.format.specs.Memory.{largest32}
 use Rattle.fill.specs.declared.Head.{Head}
 use Rattle.fill.specs.declared.Field.{Field}
 

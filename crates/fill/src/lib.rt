@@ -8,7 +8,7 @@ ghost use Prim.Native.Nat.{_+_, _-_, _<_, _≤_, min};
 ghost use lib.Dec.{leb, ltb};
 ghost use lib.ListN.{length, set, replicate, take, drop};
 ghost use lib.Seq.{sets};
-ghost use Rattle.runs.specs.Words.{largest32};
+ghost use Rattle.format.specs.Memory.{largest32};
 ghost use Rattle.fill.specs.Put.{copyFits, endFits, fieldFits, endOf, behind, rowsWith};
 
 // Where the walk is: the next byte of the file, the form, the blanks held, how many of the text, the
@@ -166,10 +166,10 @@ fn field_fits(p: Head, x: Field, file: usize, text: usize, ends: usize, rows: us
 fn numbered(length: usize) -> usize
     ensures { λ r. ⌜ r ≡ min length largest32 ⌝ }
 {
-    if length < runs::LARGEST_32 {
+    if length < format::LARGEST_32 {
         length
     } else {
-        runs::LARGEST_32
+        format::LARGEST_32
     }
 }
 
@@ -185,8 +185,8 @@ fn end_fits(p: Head, n: usize, row: bool, ends: usize, rows: usize) -> bool
     ensures { λ r. ⌜ r ≡ endFits p n row ends rows ⌝ }
 {
     (p.ends < ends)
-        & (n <= runs::LARGEST_32)
-        & (p.ends < runs::LARGEST_32)
+        & (n <= format::LARGEST_32)
+        & (p.ends < format::LARGEST_32)
         & (!row | (p.rows < rows))
 }
 

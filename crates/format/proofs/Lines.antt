@@ -3,15 +3,14 @@ use Prim.Native.Nat.{ℕ, suc, _+_, _*_, _≤_, _<_}
 use native.Mathlib.Omega.{arith}
 use native.Mathlib.Numerals.{add-one}
 use mathlib.Core.Path.{_≡_, refl}
-use mathlib.Core.Bool.{Bool, true, false, cond, or-false}
+use mathlib.Core.Bool.{Bool, true, false, cond}
 use mathlib.Core.List.{List, [], _∷_, _++_, append-assoc}
 use lib.Dec.{eqb}
 use lib.ListN.{length, getD}
 use lib.Seq.{slice, slice-cons, slice-empty, length-slice}
 use borrow.Author.Tests.{ne-eqb}
 use Rattle.format.specs.Table.{Bytes, Content}
-use Rattle.format.specs.Dialect.{Dialect, strict}
-use Rattle.format.specs.Grammar.{padded}
+use Rattle.format.specs.Dialect.{Dialect}
 use Rattle.format.specs.Memory.{parts}
 use Rattle.format.specs.WrittenForms.{isSpecial, holdsSpecial, needsQuotes, doubled, quotedForm, plainForm, recordBy, tableBy}
 

@@ -11,7 +11,6 @@ use Rattle.format.specs.Dialect.{Class, text, delimiter, quote, CR, LF, 
 use Rattle.format.specs.Grammar.{padded, Blanks, Bare, Inside, Open, Quoted, Field, Record, Break, File}
 use Rattle.format.specs.Rfc4180
 use Rattle.format.specs.Rfc4180.{Textdata, NonEscaped, InEscaped}
-use Rattle.format.specs.House.{LastBreak, EmptyFile, Allowed}
 use Rattle.format.specs.Reading.{Reading, RfcReading}
 use Rattle.format.specs.WrittenForms.{isSpecial, holdsSpecial, needsQuotes}
 use Rattle.format.proofs.Leniencies.{strict-report}

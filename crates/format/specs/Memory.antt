@@ -6,6 +6,10 @@ use lib.ListN.{length, getD}
 use lib.Seq.{slice}
 use Rattle.format.specs.Table.{Bytes, Table, lastOf}
 
+-- the largest number of 32 bits, which is the most that ends and rows can count to
+abbrev pub largest32 : ℕ
+largest32 = 4294967295
+
 -- the lengths of lists so far, where n came before
 unfoldable pub lengths : {A : Type 0} → ℕ → List (List A) → List ℕ
 lengths n [] = []

@@ -7,6 +7,9 @@ pub const CONTENT_LIMIT: u32 = 4096;
 
 pub const FILE_LIMIT: u32 = 16777216;
 
+// The largest number of 32 bits, which is the most that ends and rows can count to.
+pub const LARGEST_32: usize = 4294967295;
+
 // Kinds of number that cannot be mixed. The rules name four: line, column, byte offset and field
 // number. Lines and columns count from 1, all others from 0. A table's column is a field number and
 // never a Column; a byte offset is a place in a file, and an index into a table's text is no such place.

@@ -7,7 +7,7 @@ use mathlib.Core.List.{[], _∷_, _++_}
 use lib.Dec.{eqb, leb}
 use Rattle.format.specs.declared.Place.{Place}
 use Rattle.format.specs.declared.Answer.{Answer}
-use Rattle.format.specs.Answer.{acceptedAs, refusedBy}
+use Rattle.format.specs.Answer.{refusedBy}
 use Rattle.format.specs.Table.{Bytes}
 use Rattle.format.specs.Dialect.{lf, names, Dialect, classOf}
 use Rattle.format.specs.Count.{wides, some}

@@ -9,8 +9,10 @@ use lib.ListN.{length, drop-of-length-le}
 use Rattle.format.specs.Table.{Bytes}
 use Rattle.format.specs.Dialect.{Dialect}
 use Rattle.format.specs.Filling.{over, Filling}
+use Rattle.format.specs.Memory.{largest32}
 use Rattle.format.proofs.Filling.{begin, move}
 use Rattle.steps.specs.Steps.{start}
+use Rattle.steps.specs.Numbers.{formNumber}
 use Rattle.steps.proofs.Rules.{form-back}
 use Rattle.fill.specs.declared.Head.{Head}
 use Rattle.fill.specs.Fill.{textIn, endsIn, rowsIn}
@@ -24,7 +26,7 @@ use Rattle.stride.proofs.Walk.{ample-on}
 
 -- the start
 abbrev pub first : Head
-first = record { at = 0; form = 0; held = 0; text = 0; ends = 0; rows = 0; begun = false }
+first = record { at = 0; form = formNumber start; held = 0; text = 0; ends = 0; rows = 0; begun = false }
 
 -- what is ahead there
 first-text : (d : Dialect) (f : Bytes) → textAhead d f first ≡ textIn d f
@@ -38,7 +40,7 @@ first-rows d f = rw (form-back start)
 
 pub ample-first :
     {d : Dialect} {f : Bytes} {text ends rows : List ℕ}
-    → length (textIn d f) ≤ 4294967295 → length (endsIn d f) ≤ 4294967295
+    → length (textIn d f) ≤ largest32 → length (endsIn d f) ≤ largest32
     → length (textIn d f) ≤ length text → length (endsIn d f) ≤ length ends → length (rowsIn d f) ≤ length rows
     → Ample d f first text ends rows
 ample-first {d} {f} a b t u v =

@@ -7,6 +7,7 @@ ghost use Prim.Native.Nat.{_≤_};
 ghost use lib.ListN.{length};
 ghost use Rattle.format.specs.Dialect.{dialect};
 ghost use Rattle.format.specs.Filling.{over};
+ghost use Rattle.format.specs.Memory.{largest32};
 ghost use Rattle.format.specs.Place.{place};
 ghost use Rattle.format.specs.Answer.{refusedBy};
 ghost use Rattle.fill.specs.Fill.{textIn, endsIn, rowsIn};
@@ -91,7 +92,7 @@ fn write_table(
     ends: &mut [u32],
     rows: &mut [u32],
 )
-    requires { ⌜ (length (textIn (dialect delimiter leniencies) (now file)) ≤ 4294967295) × (length (endsIn (dialect delimiter leniencies) (now file)) ≤ 4294967295) ⌝ }
+    requires { ⌜ (length (textIn (dialect delimiter leniencies) (now file)) ≤ largest32) × (length (endsIn (dialect delimiter leniencies) (now file)) ≤ largest32) ⌝ }
     requires { ⌜ length (textIn (dialect delimiter leniencies) (now file)) ≤ length (now text) ⌝ }
     requires { ⌜ length (endsIn (dialect delimiter leniencies) (now file)) ≤ length (now ends) ⌝ }
     requires { ⌜ length (rowsIn (dialect delimiter leniencies) (now file)) ≤ length (now rows) ⌝ }
@@ -101,7 +102,7 @@ fn write_table(
 {
     let head = Head {
         at: 0,
-        form: 0,
+        form: steps::START,
         held: 0,
         text: 0,
         ends: 0,

@@ -8,10 +8,6 @@ use Rattle.format.specs.Table.{Bytes}
 use Rattle.format.specs.Dialect.{Dialect}
 use Rattle.runs.specs.Runs.{isPlain}
 
--- the largest number of 32 bits
-abbrev pub largest32 : ℕ
-largest32 = 4294967295
-
 abbrev pub bit : Bool → ℕ
 bit x = cond x 1 0
 

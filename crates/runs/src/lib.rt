@@ -11,9 +11,6 @@ ghost use Rattle.format.specs.Place.{lineFeeds, sinceLf};
 ghost use Rattle.runs.specs.Runs.{run, isPlain, isInner, pairs, isBreak};
 ghost use Rattle.runs.specs.Words.{bit, word, blockEnd, Marks, Stops};
 
-// The largest number of 32 bits.
-pub const LARGEST_32: usize = 4294967295;
-
 // Whether b is plain text in the dialect of any two bytes.
 pub fn is_plain(delimiter: u8, leniencies: u8, b: u8) -> bool
     ensures { λ r. ⌜ r ≡ isPlain (dialect delimiter leniencies) b ⌝ }

@@ -4,6 +4,7 @@ ghost use mathlib.Core.Path.{_≡_};
 ghost use mathlib.Core.List.{[], _∷_};
 ghost use Prim.Native.Nat.{min};
 ghost use Rattle.format.specs.Answer.{writerNumbers, searchNumbers, partNumbers};
+ghost use Rattle.format.specs.Memory.{largest32};
 ghost use Rattle.pieces.specs.Answers.{Started, Fed, Asked};
 ghost use Rattle.reader.specs.Read.{ReadOutcome};
 ghost use Rattle.tables.specs.Search.{Searched};
@@ -141,9 +142,13 @@ pub extern "C" fn sv_show(
 
 // A number, or the most that 32 bits hold, which is behind every record and every column.
 fn at_most(n: usize) -> u32
-    ensures { λ r. ⌜ r ≡ min n 4294967295 ⌝ }
+    ensures { λ r. ⌜ r ≡ min n largest32 ⌝ }
 {
-    if n < 4294967295 { n as u32 } else { 4294967295 }
+    if n < format::LARGEST_32 {
+        n as u32
+    } else {
+        format::LARGEST_32 as u32
+    }
 }
 
 // The five numbers of an answer to a write.

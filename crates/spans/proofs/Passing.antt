@@ -12,7 +12,7 @@ use Rattle.format.specs.House.{contentLimit}
 use Rattle.steps.specs.Steps.{start}
 use Rattle.runs.specs.Runs.{run, isPlain, isBreak}
 use Rattle.runs.proofs.Runs.{run-join, run-within, BreakAt, break-at}
-use Rattle.runs.specs.Words.{largest32}
+use Rattle.format.specs.Memory.{largest32}
 use Rattle.state.specs.declared.Check.{Check}
 use Rattle.spans.specs.declared.Inside.{Inside}
 use Rattle.spans.specs.declared.Walk.{Walk}

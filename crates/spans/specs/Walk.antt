@@ -11,7 +11,7 @@ use Rattle.format.specs.House.{contentLimit}
 use Rattle.steps.specs.Steps.{start, bare, quoted}
 use Rattle.steps.specs.Numbers.{formNumber}
 use Rattle.runs.specs.Runs.{run, isPlain, isBreak}
-use Rattle.runs.specs.Words.{largest32}
+use Rattle.format.specs.Memory.{largest32}
 use Rattle.places.specs.Counters.{counterLimit, plus, along, spot}
 use Rattle.state.specs.declared.Check.{Check}
 use Rattle.state.specs.declared.Counts.{Counts}

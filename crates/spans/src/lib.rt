@@ -6,7 +6,8 @@ ghost use Prim.Native.Nat.{_+_, _≤_, _<_};
 ghost use mathlib.Core.Bool.{true};
 ghost use mathlib.Core.Path.{_≡_};
 ghost use Rattle.format.specs.Dialect.{dialect};
-ghost use Rattle.runs.specs.Words.{Marks, Stops, largest32};
+ghost use Rattle.format.specs.Memory.{largest32};
+ghost use Rattle.runs.specs.Words.{Marks, Stops};
 ghost use Rattle.spans.specs.Walk.{BetweenFrom, Between, runOn, Further, lastLine, Level, placedAt, fieldOn, rowOn, Closed, endAt, endedBy, Fits, Sized, Walking, Goes, Leading};
 ghost use lib.ListN.{length, getD};
 ghost use Rattle.runs.specs.Runs.{isInner};
@@ -89,7 +90,7 @@ fn start_of(number: u32, at: usize) -> Walk
 fn is_level(check: Check, s: &[u8]) -> bool
     ensures { λ r. ⌜ (r ≡ true → Level check (now (s .entry))) ⌝ }
 {
-    if runs::LARGEST_32 < s.len() {
+    if format::LARGEST_32 < s.len() {
         return false;
     }
     if check.refusal != 0 {

@@ -9,7 +9,7 @@ use Rattle.format.specs.Dialect.{Dialect}
 use Rattle.steps.specs.Steps.{start}
 use Rattle.steps.specs.Numbers.{formNumber}
 use Rattle.runs.specs.Runs.{run, isPlain, isBreak}
-use Rattle.runs.specs.Words.{largest32}
+use Rattle.format.specs.Memory.{largest32}
 use Rattle.fill.specs.declared.Head.{Head}
 use Rattle.fill.specs.declared.Field.{Field}
 use Rattle.fill.specs.Put.{behind, endOf}

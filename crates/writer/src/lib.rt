@@ -8,7 +8,7 @@ ghost use lib.ListN.{length, getD};
 ghost use lib.Seq.{slice, sets};
 ghost use Rattle.format.specs.Dialect.{strict};
 ghost use Rattle.format.specs.Answer.{writerNumbers};
-ghost use Rattle.format.specs.Memory.{WellFormed, tableOf};
+ghost use Rattle.format.specs.Memory.{largest32, WellFormed, tableOf};
 ghost use Rattle.format.specs.WrittenForms.{isSpecial, doubled, tableBy, CanHold};
 ghost use Rattle.format.specs.Filling.{over};
 ghost use Rattle.tables.specs.Seek.{Sought, Strays, paired};
@@ -114,7 +114,7 @@ fn size(text: &[u8], ends: &[u32], rows: &[u32], full: bool) -> u64
 
 // The length of a field.
 fn size_field(text: &[u8], from: usize, end: usize, full: bool) -> u64
-    requires { ⌜ (from ≤ end) × (end ≤ length (now text)) × (end ≤ 4294967295) ⌝ }
+    requires { ⌜ (from ≤ end) × (end ≤ length (now text)) × (end ≤ largest32) ⌝ }
     ensures { λ r. ⌜ r ≡ length (formIn full (slice from end (now (text .entry)))) ⌝ }
 {
     let n = size_inside(text, from, end);

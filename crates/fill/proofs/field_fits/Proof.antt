@@ -6,7 +6,7 @@ use borrow.Author.Tests.{not-true, not-false, le-leb, lt-leb}
 use Rattle.fill.specs.Put.{endOf}
 use Rattle.fill.proofs.Put.{fits-least}
 use borrow.Author.Needs.{needs}
-use Rattle.runs.specs.Words.{largest32}
+use Rattle.format.specs.Memory.{largest32}
 use Rattle.fill.proofs.field_fits.Statement.{statement}
 use Rattle.fill.proofs.field_fits.Tie as tie
 

@@ -8,7 +8,7 @@ use borrow.Author.Tests.{not-true, not-false}
 use Rattle.fill.proofs.Put.{end-room, rows-few}
 use Rattle.fill.specs.Put.{endFits}
 use borrow.Author.Needs.{needs}
-use Rattle.runs.specs.Words.{largest32}
+use Rattle.format.specs.Memory.{largest32}
 use Rattle.fill.proofs.put_end.Statement.{statement}
 use Rattle.fill.proofs.put_end.Tie as tie
 

@@ -8,7 +8,7 @@ use borrow.Author.Tests.{not-true, not-false}
 use Rattle.fill.proofs.Put.{FieldRoom, field-room, room-end, rows-few}
 use Rattle.fill.specs.Put.{fieldFits, endOf}
 use borrow.Author.Needs.{needs}
-use Rattle.runs.specs.Words.{largest32}
+use Rattle.format.specs.Memory.{largest32}
 use Rattle.fill.proofs.put_whole.Statement.{statement}
 use Rattle.fill.proofs.put_whole.Tie as tie
 

@@ -1,11 +1,10 @@
 -- `runs::is_plain` meets its contract.
-use Prim.Native.Nat.{ℕ}
 use native.Mathlib.Omega.{arith}
 use mathlib.Core.Path.{_≡_, refl}
 use mathlib.Core.Bool.{Bool, true, false, cond, not, _&&_}
 use lib.Dec.{eqb, leb}
 use borrow.Author.Tests.{eq-eqb, ne-eqb, le-leb, lt-leb, leb-true}
-use Rattle.format.specs.Dialect.{blanks, bytes, names, isWide, Class, text, blank, CR, LF, forbidden, classOf}
+use Rattle.format.specs.Dialect.{blanks, bytes, names, isWide, text, blank, CR, LF, forbidden, classOf}
 use Rattle.runs.specs.Runs.{isText, isPlain}
 use Rattle.runs.proofs.is_plain.Statement.{statement}
 use Rattle.runs.proofs.is_plain.Tie as tie

@@ -1,5 +1,5 @@
 -- `runs::line_feeds` meets its contract. The loop's invariant: the line feeds that are passed and those that are left are all.
-use Prim.Native.Nat.{ℕ, _+_, _-_, _≤_, _<_}
+use Prim.Native.Nat.{_+_, _-_, _≤_}
 use native.Mathlib.Omega.{arith}
 use mathlib.Core.Path.{_≡_}
 use lib.ListN.{length, drop}

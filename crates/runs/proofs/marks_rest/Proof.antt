@@ -1,9 +1,9 @@
 -- `runs::marks_rest` meets its contract.
 use Prim.Native.Nat.{ℕ, _+_, _-_, _*_, _≤_, _<_}
-use mathlib.Core.Path.{_≡_, refl, sym, ap, _∙_}
+use mathlib.Core.Path.{_≡_, ap, _∙_}
 use mathlib.Core.Bool.{false}
 use native.Mathlib.Omega.{arith}
-use lib.ListN.{length, take, drop, getD}
+use lib.ListN.{length, drop, getD}
 use Rattle.runs.specs.Words.{word}
 use Rattle.runs.proofs.Words.{bit-le, word-none, rest-room, rest-more, rest-all}
 use Rattle.runs.proofs.marks_rest.Statement.{statement}

@@ -1,12 +1,12 @@
 -- `runs::quote_block` meets its contract.
 use Prim.Native.Nat.{ℕ, _+_, _-_, _≤_, _<_}
 use native.Mathlib.Omega.{arith}
-use mathlib.Core.Path.{_≡_, sym, _∙_}
+use mathlib.Core.Path.{_≡_}
 use mathlib.Core.Bool.{true}
 use borrow.Author.Count.{below-more}
 use borrow.Author.Tests.{eqb-true}
 use lib.Dec.{eqb}
-use lib.ListN.{length, getD}
+use lib.ListN.{getD}
 use Rattle.runs.proofs.Runs.{and-both}
 use Rattle.runs.proofs.quote_block.Statement.{statement}
 use Rattle.runs.proofs.quote_block.Tie as tie

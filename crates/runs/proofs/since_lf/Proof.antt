@@ -1,7 +1,6 @@
 -- `runs::since_lf` meets its contract. The loop's invariant: no LF stands from there on.
-use Prim.Native.Nat.{ℕ, _+_, _-_, _≤_, _<_}
+use Prim.Native.Nat.{_-_}
 use native.Mathlib.Omega.{arith}
-use mathlib.Core.Path.{_≡_}
 use lib.ListN.{length}
 use Rattle.runs.proofs.Lines.{feeds-none, NoLf, no-lf-more, no-lf-stops, no-lf-end}
 use Rattle.runs.proofs.since_lf.Statement.{statement}

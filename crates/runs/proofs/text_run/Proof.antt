@@ -1,9 +1,9 @@
 -- `runs::text_run` meets its contract. The loop's invariant: what is passed and the run that is left come to the whole run.
-use Prim.Native.Nat.{ℕ, _+_, _-_, _≤_, _<_}
+use Prim.Native.Nat.{_-_, _<_}
 use native.Mathlib.Omega.{arith}
-use mathlib.Core.Path.{_≡_, sym, _∙_}
+use mathlib.Core.Path.{sym, _∙_}
 use borrow.Author.Tests.{not-true, not-false}
-use lib.ListN.{length, getD, drop}
+use lib.ListN.{length}
 use Rattle.format.specs.Dialect.{dialect}
 use Rattle.runs.proofs.Runs.{Passed, passed-more, passed-stops, passed-end}
 use Rattle.runs.specs.Runs.{isPlain}
