@@ -1,19 +1,18 @@
 -- The reader's laws in the words of the statements.
 use Prim.Native.Nat.{ℕ}
 use mathlib.Core.Path.{_≡_, refl, sym, ap, subst, _∙_}
-use mathlib.Core.List.{List, flatten}
+use mathlib.Core.List.{List}
 use mathlib.Core.Logic.{_⊎_, inl, inr}
-use lib.ListN.{length, take}
-use lib.Seq.{take-append-seam}
+use lib.ListN.{take}
 use Rattle.format.specs.declared.Answer.{Answer}
 use Rattle.format.specs.Table.{Bytes, Table}
-use Rattle.format.specs.Memory.{textOf, endsOf, rowsOf, tableOf}
+use Rattle.format.specs.Memory.{tableOf}
 use Rattle.format.specs.Place.{place}
 use Rattle.format.specs.Reading.{Accepted, Refused}
 use Rattle.format.specs.Answer.{acceptedAs, refusedBy}
-use Rattle.format.proofs.Memory.{length-lengths, table-back}
+use Rattle.format.proofs.Memory.{table-back}
 use Rattle.reader.specs.Read.{NoRoom, ReadOutcome}
-use Rattle.reader.proofs.Calls.{one-outcome, not-refused, refused-same, read-table}
+use Rattle.reader.proofs.Calls.{one-outcome, not-refused, refused-same, used-text, used-ends, used-rows, read-table}
 use Rattle.demands.specs.Demands.{Slices, memoryOf, laid, RoomFor, Read, ReadAs, Same}
 
 -- three slices are equal by their parts
@@ -25,13 +24,7 @@ abbrev used : Answer → Slices → Table
 used a m = tableOf (take (a .totals .text) (m .text)) (take (a .totals .fields .0) (m .ends)) (take (a .totals .records) (m .rows))
 
 used-is : (t : Table) (r : ℕ) (lent : Slices) → used (acceptedAs t r) (laid (memoryOf t) lent) ≡ t
-used-is t r lent = rw (take-append-seam (textOf t), used-ends, used-rows) (table-back t)
-  where
-    used-ends : take (length (flatten t)) (laid (memoryOf t) lent .ends) ≡ endsOf t
-    used-ends = rw (← length-lengths 0 (flatten t)) (take-append-seam (endsOf t) _)
-
-    used-rows : take (length t) (laid (memoryOf t) lent .rows) ≡ rowsOf t
-    used-rows = rw (← length-lengths 0 t) (take-append-seam (rowsOf t) _)
+used-is t r lent = rw (used-text t (lent .text), used-ends t (lent .ends), used-rows t (lent .rows)) (table-back t)
 
 -- what a read that is not refused comes to
 pub record Took {b sum : ℕ} {f : Bytes} {lent : Slices} (c : Read b sum f lent) : Type 0 where

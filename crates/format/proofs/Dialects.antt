@@ -16,7 +16,7 @@ use Rattle.format.specs.House.{differs, isRagged, EqualRows, Fits, Allow
 use Rattle.format.specs.Memory.{textOf}
 use Rattle.format.specs.Count.{inRecord, inFile, blankCount, dropped, alone, alones, wides, some, uses}
 use Rattle.format.proofs.Classes.{Beside, same, as-text, as-blank, any, beside, quotedClass, quoted-class, inside-byte}
-use Rattle.format.proofs.Memory.{flatten-join}
+use Rattle.format.proofs.Memory.{sizes-more}
 use Rattle.format.proofs.Trim.{fitted}
 
 -- delimiter, quote, CR and LF
@@ -116,16 +116,11 @@ pub record NoLarger (u t : Table) : Type 0 where
 pub as-large : (t : Table) → NoLarger t t
 as-large t = record { text = omega arith; fields = refl; records = refl }
 
--- the sizes of a table, one record after the other
-larger : (cs : List Content) (t : Table) → (length (textOf (cs ∷ t)) ≡ length (flatten cs) + length (textOf t)) × (length (flatten (cs ∷ t)) ≡ length cs + length (flatten t))
-unfolding flatten
-larger cs t = (ap length (flatten-join cs (flatten t)) ∙ length-append (flatten cs) (textOf t), length-append cs (flatten t))
-
 no-larger : {t u : Table} → Shaped t u → NoLarger u t
 no-larger Shaped.none = as-large []
 no-larger (Shaped.more {cs} {es} {t} {u} m s) =
-    let (a, b) = larger cs t in
-    let (c, e) = larger es u in
+    let (a, b) = sizes-more cs t in
+    let (c, e) = sizes-more es u in
     let n = no-larger s in
     record {
       text = omega (arith, a, c, m .shorter, n .text);

@@ -12,7 +12,7 @@ use Rattle.format.specs.Table.{Bytes, Content, Table, Ending}
 use Rattle.format.specs.Dialect.{Leniency, lf, blanks, ragged, bytes, Dialect, names, dialect, strict, isWide, Class, forbidden, classOf}
 use Rattle.format.specs.Grammar.{Blanks, Bare, Inside, Open, Quoted, Field, Record, Break, File}
 use Rattle.format.specs.House.{isRagged, EqualRows, Allowed}
-use Rattle.format.specs.Count.{inRecord, inFile, blankCount, dropped, alone, alones, wides, some, uses, sumOf, report}
+use Rattle.format.specs.Count.{inRecord, inFile, blankCount, dropped, alone, alones, wides, some, uses, sumOf, reportOf}
 use Rattle.format.specs.Reading.{Reading}
 use Rattle.format.proofs.Classes.{blank-is, quotedClass, wide, not-wide}
 use Rattle.format.proofs.Dialects.{solid, NoMoreBlanks, NoLarger, as-large, file-too, same-file}
@@ -180,7 +180,7 @@ report-most (Reading.something p b a q) = rw (← q) (sum-most (uses p))
 
 -- what the report names is what was used
 report-names :
-    {d : Dialect} {f : Bytes} {t : Table} {e : Ending} {r : ℕ} (p : File d f t e) → report p ≡ r → (l : Leniency) → names r l ≡ uses p l
+    {d : Dialect} {f : Bytes} {t : Table} {e : Ending} {r : ℕ} (p : File d f t e) → reportOf p ≡ r → (l : Leniency) → names r l ≡ uses p l
 report-names p q l = rw (← q) (sum-names (uses p) l)
 
 none-named : (l : Leniency) → names 0 l ≡ true → ⊥
@@ -232,7 +232,7 @@ pub more-lenient :
 more-lenient d d′ v {t} (Reading.nothing h) k = (t, 0, Reading.nothing h, inl refl, as-large t)
 more-lenient d d′ v {r} (Reading.something p b a q) k =
     let (u, p′, h, m, x, y, z, w) = file-too d d′ v p (λ l e. k l (report-names p q l ∙ e)) in
-    (u, report p′, Reading.something p′ b (h a) refl, blanks-or-not (uses p′) (uses p) x y z (go (d .allows blanks) refl (λ o. w o .1)) q, m)
+    (u, reportOf p′, Reading.something p′ b (h a) refl, blanks-or-not (uses p′) (uses p) x y z (go (d .allows blanks) refl (λ o. w o .1)) q, m)
   where
     go : (x : Bool) {A : Type 0} → d .allows blanks ≡ x → (NoMoreBlanks d d′ → A) → A ⊎ (uses p blanks ≡ false)
     go true e w = inl (w (λ i. e))

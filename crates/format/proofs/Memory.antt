@@ -7,7 +7,7 @@ use mathlib.Core.Path.{_≡_, refl, sym, ap, _∙_}
 use mathlib.Core.List.{List, [], _∷_, _++_, append-assoc, append-nil, flatten, map}
 use lib.ListN.{length, take, drop, getD, length-append, take-append-drop, drop-of-length-le}
 use lib.Seq.{slice, drop-cons, length-slice, length-take-le, take-nil, take-all, take-at, drop-at, drop-nil, drop-length, drop-append-le, getD-take, getD-drop}
-use Rattle.format.specs.Table.{Bytes, Table, Every, lastOf}
+use Rattle.format.specs.Table.{Bytes, Content, Table, Every, lastOf}
 use Rattle.format.specs.House.{widthOf}
 use Rattle.format.specs.Memory.{lengths, textOf, endsOf, rowsOf, Ordered, WellFormed, parts, gaps, tableOf, startOf, partOf}
 
@@ -156,6 +156,13 @@ module _ {A : Type 0} where
   take-from (suc f) t [] = take-nil (t - suc f) ∙ ap (λ (m : List A). drop (suc f) m) (sym (take-nil t))
   take-from (suc f) zero (x ∷ l) = let e : 0 - suc f ≡ 0 = omega arith in ap (λ (n : ℕ). take n (drop f l)) e
   take-from (suc f) (suc t) (x ∷ l) = let e : suc t - suc f ≡ t - f = omega arith in ap (λ (n : ℕ). take n (drop f l)) e ∙ take-from f t l
+
+-- the sizes of a table, one record after the other
+pub sizes-more :
+    (cs : List Content) (t : Table)
+    → (length (textOf (cs ∷ t)) ≡ length (flatten cs) + length (textOf t)) × (length (flatten (cs ∷ t)) ≡ length cs + length (flatten t))
+unfolding flatten
+sizes-more cs t = (ap length (flatten-join cs (flatten t)) ∙ length-append (flatten cs) (textOf t), length-append cs (flatten t))
 
 -- the gaps, one after the other
 pub gaps-more : (n i : ℕ) (ms : List ℕ) → i < length ms → gaps n (drop i ms) ≡ (getD ms i 0 - n) ∷ gaps (getD ms i 0) (drop (i + 1) ms)

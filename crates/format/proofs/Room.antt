@@ -1,7 +1,6 @@
 -- How much room a file can ask for: its contents come from its bytes, and each field and each record but one has a byte of its own.
 use Prim.Native.Nat.{ℕ, _+_, _≤_}
 use native.Mathlib.Omega.{arith}
-use mathlib.Core.Path.{_≡_, ap}
 use mathlib.Core.List.{List, [], _∷_, flatten}
 use lib.ListN.{length, length-append}
 use Rattle.format.specs.Table.{Bytes, Content, Table, Ending, without-break}
@@ -11,15 +10,7 @@ use Rattle.format.specs.House.{LastBreak, EmptyFile}
 use Rattle.format.specs.Memory.{textOf}
 use Rattle.format.specs.Reading.{Reading}
 use Rattle.format.proofs.CanHold.{record-clean}
-use Rattle.format.proofs.Memory.{flatten-join}
-
--- a record more: its text and its fields are added
-joined :
-    (cs : List Content) (t : Table)
-    → length (textOf (cs ∷ t)) + length (flatten (cs ∷ t))
-    ≡ length (flatten cs) + length cs + (length (textOf t) + length (flatten t))
-unfolding flatten
-joined cs t = omega (arith, length-append cs (flatten t), length-append (flatten cs) (textOf t), ap length (flatten-join cs (flatten t)))
+use Rattle.format.proofs.Memory.{sizes-more}
 
 -- a last record without its line break has a byte
 last-room : (f : Bytes) → LastBreak (without-break f) → 1 ≤ length f
@@ -59,9 +50,9 @@ module _ {d : Dialect} where
   -- so text and fields together are at most one more than the file
   file-room : {f : Bytes} {t : Table} {e : Ending} → File d f t e → length (textOf t) + length (flatten t) ≤ length f + 1
   unfolding flatten
-  file-room (File.one {cs} r) = omega (arith, record-room r, joined cs [])
-  file-room (File.ended {cs} r k) = omega (arith, record-room r, joined cs [], break-room k)
-  file-room (File.more {cs} {t} r k p) = omega (arith, record-room r, joined cs t, break-room k, file-room p)
+  file-room (File.one {cs} r) = omega (arith, record-room r, sizes-more cs [])
+  file-room (File.ended {cs} r k) = omega (arith, record-room r, sizes-more cs [], break-room k)
+  file-room (File.more {cs} {t} r k p) = omega (arith, record-room r, sizes-more cs t, break-room k, file-room p)
 
   file-some : {f : Bytes} {t : Table} {e : Ending} → File d f t e → 1 ≤ length (flatten t)
   unfolding flatten

@@ -74,5 +74,5 @@ uses {d} {f} p bytes = some (wides d f)
 abbrev pub sumOf : (Leniency → Bool) → ℕ
 sumOf used = let bit : Leniency → ℕ = λ l. cond (used l) (bitOf l) 0 in bit lf + (bit blanks + (bit ragged + bit bytes))
 
-abbrev pub report : {d : Dialect} {f : Bytes} {t : Table} {e : Ending} → File d f t e → ℕ
-report p = sumOf (uses p)
+abbrev pub reportOf : {d : Dialect} {f : Bytes} {t : Table} {e : Ending} → File d f t e → ℕ
+reportOf p = sumOf (uses p)

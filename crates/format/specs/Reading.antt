@@ -9,14 +9,14 @@ use Rattle.format.specs.Dialect.{Dialect, dialect, strict, Valid}
 use Rattle.format.specs.Rfc4180
 use Rattle.format.specs.Grammar.{File}
 use Rattle.format.specs.House.{LastBreak, EmptyFile, fileLimit, Allowed}
-use Rattle.format.specs.Count.{report}
+use Rattle.format.specs.Count.{reportOf}
 use Rattle.format.specs.Place.{place, placeOf}
 use Rattle.format.specs.Refusal.{Refusal}
 
 -- `Reading d f t r`: in the dialect d the file f holds the table t, and r reports the leniencies used. The file limit is set aside, as demand 3 does.
 pub data Reading (d : Dialect) (f : Bytes) (t : Table) : ℕ → Type 0 where
   nothing : EmptyFile f t → Reading d f t 0
-  something : {e : Ending} {r : ℕ} (p : File d f t e) → LastBreak e → Allowed d t → report p ≡ r → Reading d f t r
+  something : {e : Ending} {r : ℕ} (p : File d f t e) → LastBreak e → Allowed d t → reportOf p ≡ r → Reading d f t r
 
 -- what RFC 4180 and the house rules say of a file, with no leniency: it is empty, or it is a file of the RFC
 abbrev pub RfcReading : Bytes → Table → Type 0

@@ -107,6 +107,17 @@ module _ {b sum : ℕ} {f text : Bytes} {ends rows : List ℕ} where
   refused-same (ReadOutcome.no-room h k) n = (refl, refl, refl)
   refused-same (ReadOutcome.filled h k) n = absurd (n refl)
 
+-- what is used of a buffer is the table's part of it
+module _ (t : Table) where
+  pub used-text : (text : Bytes) → take (length (textOf t)) (over (textOf t) text) ≡ textOf t
+  used-text text = take-append-seam (textOf t) _
+
+  pub used-ends : (ends : List ℕ) → take (length (flatten t)) (over (endsOf t) ends) ≡ endsOf t
+  used-ends ends = rw (← length-lengths 0 (flatten t)) (take-append-seam (endsOf t) _)
+
+  pub used-rows : (rows : List ℕ) → take (length t) (over (rowsOf t) rows) ≡ rowsOf t
+  used-rows rows = rw (← length-lengths 0 t) (take-append-seam (rowsOf t) _)
+
 -- the used part of the three buffers is well formed, and is the grammar's table
 pub record Holding (b sum : ℕ) (f : Bytes) (s : Totals) (x : Bytes) (y z : List ℕ) : Type 0 where
   pub table : Table
@@ -123,18 +134,9 @@ read-table {b} {sum} {text} {ends} {rows} (ReadOutcome.filled {t} h k) e =
     record {
       table = t;
       accepted = h;
-      table-is = rw (used-text, used-ends, used-rows) (table-back t);
-      formed = rw (used-text, used-ends, used-rows) (table-well-formed t (reading-can-hold (h .reading) .some-field));
+      table-is = rw (used-text t text, used-ends t ends, used-rows t rows) (table-back t);
+      formed = rw (used-text t text, used-ends t ends, used-rows t rows) (table-well-formed t (reading-can-hold (h .reading) .some-field));
     }
-  where
-    used-text : take (length (textOf t)) (over (textOf t) text) ≡ textOf t
-    used-text = take-append-seam (textOf t) _
-
-    used-ends : take (length (flatten t)) (over (endsOf t) ends) ≡ endsOf t
-    used-ends = rw (← length-lengths 0 (flatten t)) (take-append-seam (endsOf t) _)
-
-    used-rows : take (length t) (over (rowsOf t) rows) ≡ rowsOf t
-    used-rows = rw (← length-lengths 0 t) (take-append-seam (rowsOf t) _)
 
 -- Text of the file's length, ends of one more and rows of the file's length are always enough: then the read is not refused for lack of room.
 pub room-enough :
