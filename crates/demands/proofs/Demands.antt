@@ -58,6 +58,7 @@ demand-2 =
         λ q. reads-as c (record { valid = (tt, omega arith); short = q .1; reading = strict-is-rfc f t .1 (q .0) }) k,
       );
       lax-reader = λ c k. (λ p. read-as c p, λ a. reads-as c a k);
+      some-table = λ c z. let x = took c z in (x .table, c .answer .totals .report, x .came);
       enough-room = λ a h i j. reads.room-enough a h (omega arith) j;
       one-reading = λ d p q. theorems.one-reading d _ _ _ _ _ p q;
       reads-back = λ {m = m} {mode = mode} {out = out} w e c k.
@@ -91,7 +92,6 @@ demand-3 : (t : Table) → 1 ≤ length t → CanHold strict t → Demand3 t
 demand-3 t n h =
     let s = plain-is-shortest-ended t n h in
     record {
-      shortest = plain strict t;
       reads = s .reads;
       ended = s .ended;
       others = s .others;

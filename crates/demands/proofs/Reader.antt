@@ -7,7 +7,7 @@ use lib.ListN.{take}
 use Rattle.format.specs.declared.Answer.{Answer}
 use Rattle.format.specs.Table.{Bytes, Table}
 use Rattle.format.specs.Memory.{tableOf}
-use Rattle.format.specs.Place.{place}
+use Rattle.format.specs.Place.{nowhere}
 use Rattle.format.specs.Reading.{Accepted, Refused}
 use Rattle.format.specs.Answer.{acceptedAs, refusedBy}
 use Rattle.format.proofs.Memory.{table-back}
@@ -70,7 +70,7 @@ module _ {b sum : ℕ} {f text : Bytes} {ends rows : List ℕ} where
   pub why-refused :
       {a : Answer} {x : Bytes} {y z : List ℕ} → ReadOutcome b sum f text ends rows a x y z → (a .refusal ≡ 0 → ⊥)
       → Refused b sum f (a .refusal) (a .place)
-      ⊎ ((t : Table) × (r : ℕ) × Accepted b sum f t r × NoRoom t text ends rows (a .refusal) × (a ≡ refusedBy (a .refusal) (place 0 0 0)))
+      ⊎ ((t : Table) × (r : ℕ) × Accepted b sum f t r × NoRoom t text ends rows (a .refusal) × (a ≡ refusedBy (a .refusal) nowhere))
   why-refused (ReadOutcome.refused h) n = inl h
   why-refused (ReadOutcome.no-room {t} {r} h k) n = inr (t, r, h, k, refl)
   why-refused (ReadOutcome.filled h k) n = absurd (n refl)

@@ -16,7 +16,7 @@ use Rattle.format.specs.Count.{Tally}
 use Rattle.format.specs.Memory.{textOf, endsOf, rowsOf, WellFormed, tableOf}
 use Rattle.format.specs.WrittenForms.{plain, CanHold}
 use Rattle.format.specs.Filling.{over}
-use Rattle.format.specs.Place.{place}
+use Rattle.format.specs.Place.{nowhere}
 use Rattle.format.specs.Reading.{Reading, RfcReading, Accepted, Refused}
 use Rattle.format.specs.Answer.{acceptedAs, refusedBy, writerNumbers}
 use Rattle.state.specs.declared.Check.{Check}
@@ -76,7 +76,7 @@ pub record Demand1 : Type 0 where
       {b sum : ℕ} {f : Bytes} {lent : Slices} (c : Read b sum f lent) → (c .answer .refusal ≡ 0 → ⊥)
       → Refused b sum f (c .answer .refusal) (c .answer .place)
       ⊎ ((t : Table) × (r : ℕ) × Accepted b sum f t r × NoRoom t (lent .text) (lent .ends) (lent .rows) (c .answer .refusal)
-      × (c .answer ≡ refusedBy (c .answer .refusal) (place 0 0 0)))
+      × (c .answer ≡ refusedBy (c .answer .refusal) nowhere))
   -- a request to show a missing field gets the caller's stand-in.
   pub missing-field :
       {text stand-in shown : Bytes} {ends rows : List ℕ} {r k : ℕ}
@@ -92,7 +92,8 @@ pub record Demand2 : Type 0 where
       {f : Bytes} {lent : Slices} {t : Table} (c : Read 0x2C 0 f lent) → RoomFor t lent → ReadAs c t 0 ↔ (RfcReading f t × (length f ≤ fileLimit))
   -- the lax reader takes exactly what the leniencies switched on add to that.
   pub lax-reader : {b sum r : ℕ} {f : Bytes} {lent : Slices} {t : Table} (c : Read b sum f lent) → RoomFor t lent → ReadAs c t r ↔ Accepted b sum f t r
-  -- (There is room where the buffers are as long as the file, and ends one longer.)
+  -- (What is not refused is read as some table. There is room where the buffers are as long as the file, and ends one longer.)
+  pub some-table : {b sum : ℕ} {f : Bytes} {lent : Slices} (c : Read b sum f lent) → c .answer .refusal ≡ 0 → (t : Table) × (r : ℕ) × ReadAs c t r
   pub enough-room :
       {b sum : ℕ} {f : Bytes} {lent : Slices} {t : Table} {r : ℕ}
       → Accepted b sum f t r → length f ≤ length (lent .text) → length f < length (lent .ends) → length f ≤ length (lent .rows) → RoomFor t lent
@@ -110,20 +111,20 @@ pub record Demand2 : Type 0 where
 
 -- Take any table of one or more records that the strict form can hold, and in this demand set the file size limit aside when judging which files are strict.
 pub record Demand3 (t : Table) : Type 0 where
-  -- Among strict files that end in a line break and read as that table, one is shorter than all others,
-  pub shortest : Bytes
-  pub reads : Reading strict shortest t 0
-  pub ended : EndsInBreak shortest
-  pub others : (g : Bytes) {r : ℕ} → Reading strict g t r → EndsInBreak g → (g ≡ shortest → ⊥) → length shortest < length g
+  -- Among strict files that end in a line break and read as that table, one is shorter than all others, (its plain form,)
+  pub reads : Reading strict (plain strict t) t 0
+  pub ended : EndsInBreak (plain strict t)
+  pub others : (g : Bytes) {r : ℕ} → Reading strict g t r → EndsInBreak g → (g ≡ plain strict t → ⊥) → length (plain strict t) < length g
   -- and the plain-quoting writer gives that one where it fits the size limit and the lent buffer.
   pub writer-gives-it :
       {m : Slices} {out : Bytes} (w : Write m 0 out) → WellFormed (m .text) (m .ends) (m .rows) → tableIn m ≡ t
-      → length shortest ≤ fileLimit → length shortest ≤ length out → (w .answer ≡ Whole (length shortest)) × (w .left ≡ over shortest out)
+      → length (plain strict t) ≤ fileLimit → length (plain strict t) ≤ length out
+      → (w .answer ≡ Whole (length (plain strict t))) × (w .left ≡ over (plain strict t) out)
   -- Any strict file of that table has that length, plus two for each field quoted without need, minus two if its last line break is missing.
   -- (n fields of f are quoted without need; m is 1 if its last line break is missing, and else 0. A file has one such tally.)
   pub tally : {f : Bytes} {r : ℕ} → Reading strict f t r → (n : ℕ) × (m : ℕ) × Tally strict f t n 0 0 m
   pub one-tally : {f : Bytes} {n m n′ m′ : ℕ} → Tally strict f t n 0 0 m → Tally strict f t n′ 0 0 m′ → (n ≡ n′) × (m ≡ m′)
-  pub size : {f : Bytes} {n m : ℕ} → Tally strict f t n 0 0 m → (length f + 2 * m ≡ length shortest + 2 * n) × (m ≤ 1) × ((m ≡ 0) ↔ EndsInBreak f)
+  pub size : {f : Bytes} {n m : ℕ} → Tally strict f t n 0 0 m → (length f + 2 * m ≡ length (plain strict t) + 2 * n) × (m ≤ 1) × ((m ≡ 0) ↔ EndsInBreak f)
   -- Two strict files therefore have the same plain form exactly when they hold the same table.
   pub same-plain : {f g : Bytes} {u : Table} {r s : ℕ} → Reading strict f t r → Reading strict g u s → (plain strict t ≡ plain strict u) ↔ (t ≡ u)
 
@@ -141,7 +142,6 @@ pub record OfficeAndAuditor : Type 0 where
       {sum : ℕ} {f : Bytes} {lent : Slices} (e : Read 0x2C 0 f lent) (c : Read 0x2C sum f lent) → e .answer .refusal ≡ 0 → sum ≤ 15
       → (c .answer .refusal ≡ 0) × (((c .answer .totals .report ≡ 0) × Same c e) ⊎ (c .answer .totals .report ≡ 2))
 
--- all of it
 pub record Demands : Type 0 where
   pub demand-1 : Demand1
   pub demand-2 : Demand2

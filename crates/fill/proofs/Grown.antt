@@ -53,7 +53,7 @@ module _ {A : Type 0} where
         at-is = omega (arith, both, g .at-is, h .at-is);
       }
 
-  -- so whatever the buffer was to be in target, it is still to be
+  -- so whatever the buffer was to become, it is still to become
   pub grown-onward : {buf rest buf′ rest′ : List A} {at at′ : ℕ} → Grown buf at rest buf′ at′ rest′ → Onward buf at rest buf′ at′ rest′
   grown-onward g target w = rw (g .buf-is, g .at-is) (pushes (g .new) target (move (g .rest-is) w))
 

@@ -8,7 +8,7 @@ use native.Mathlib.Omega.{arith}
 use lib.Dec.{T, leb, eqb, eqb-refl}
 use borrow.Author.Tests.{le-leb, leb-true, leb-false, eqb-true, eqb-false, lt-leb, eq-eqb, ne-eqb}
 use Rattle.format.specs.Table.{Bytes, Content, lastOf}
-use Rattle.format.specs.Dialect.{blanks, bytes, Dialect, strict, Class, text, blank, delimiter, quote, CR, LF, forbidden, classOf, delimits, isPrintable, isWide}
+use Rattle.format.specs.Dialect.{blanks, bytes, Dialect, strict, Class, text, blank, delimiter, quote, CR, LF, forbidden, classOf, delimits, isPrintable, isWide, onlyWide}
 use Rattle.format.specs.Grammar.{padded, Inside}
 use Rattle.format.specs.Rfc4180.{Textdata}
 use Rattle.format.specs.WrittenForms.{isSpecial}
@@ -47,12 +47,12 @@ view d b =
     decide P (eqb b 0x22) (λ e. is-quote (eqb-true b 0x22 e)) λ e₂.
     decide P (eqb b 0x0D) (λ e. is-CR (eqb-true b 0x0D e)) λ e₃.
     decide P (eqb b 0x0A) (λ e. is-LF (eqb-true b 0x0A e)) λ e₄.
-    let mark : isSpecial d b ≡ false = simp (e₁, e₂, e₃, e₄) in
+    let none : isSpecial d b ≡ false = simp (e₁, e₂, e₃, e₄) in
     decide P (eqb b 0x20)
-    (λ e. decide P (d .allows blanks) (λ k. is-blank (eqb-true b 0x20 e) (rw k tt) mark) (λ k. is-text mark (rw k)))
+    (λ e. decide P (d .allows blanks) (λ k. is-blank (eqb-true b 0x20 e) (rw k tt) none) (λ k. is-text none (rw k)))
     λ e₅.
-    decide P (isPrintable b) (λ e. is-text mark (not-blank d b e₅)) λ e₆.
-    decide P (isWide b) (λ e. decide P (d .allows bytes) (λ k. is-text mark (not-blank d b e₅)) (λ k. is-forbidden mark)) (λ e. is-forbidden mark)
+    decide P (isPrintable b) (λ e. is-text none (not-blank d b e₅)) λ e₆.
+    decide P (isWide b) (λ e. decide P (d .allows bytes) (λ k. is-text none (not-blank d b e₅)) (λ k. is-forbidden none)) (λ e. is-forbidden none)
 
 module _ (d : Dialect) (b : ℕ) where
   pub quote-is : classOf d b ≡ quote → b ≡ 0x22
@@ -101,7 +101,7 @@ module _ (d : Dialect) (b : ℕ) where
       go : View d b blank → (isSpecial d b ≡ false) × (droppable d b ≡ true)
       go (is-blank q t m) = (m, rw q (on (d .allows blanks) t))
 
--- the classes of specialClass
+-- the classes of special bytes
 abbrev pub specialClass : Class → Bool
 specialClass text = false
 specialClass blank = false
@@ -256,10 +256,6 @@ unpadded-ends d b c = go (d .allows blanks) (eqb b 0x20) (eqb (lastOf b c) 0x20)
 
 -- Two dialects of one delimiter.
 
--- a byte that "bytes" allows and that is not the delimiter
-abbrev pub wide : Dialect → ℕ → Bool
-wide d b = isWide b && not (eqb b (d .delimiterByte))
-
 both-true : (x y : Bool) → (x && y) ≡ true → (x ≡ true) × (y ≡ true)
 both-true true y e = (refl, e)
 both-true false y e = absurd (true≢false (sym e))
@@ -286,10 +282,10 @@ printed-inside d b l h other =
     decide P (isPrintable b) (λ e. refl) λ e₆. absurd (not-printable b e₆ (omega (arith, eqb-false b 0x20 e₅)) h)
 
 -- where "bytes" is off, such a byte is forbidden
-pub not-wide : (d : Dialect) (b : ℕ) → d .allows bytes ≡ false → (classOf d b ≡ forbidden → ⊥) → wide d b ≡ false
+pub not-wide : (d : Dialect) (b : ℕ) → d .allows bytes ≡ false → (classOf d b ≡ forbidden → ⊥) → onlyWide (d .delimiterByte) b ≡ false
 unfolding classOf
 not-wide d b off =
-    let P : Class → Type 0 = λ x. (x ≡ forbidden → ⊥) → wide d b ≡ false in
+    let P : Class → Type 0 = λ x. (x ≡ forbidden → ⊥) → onlyWide (d .delimiterByte) b ≡ false in
     decide P (eqb b (d .delimiterByte)) (λ e h. rw e (and-false (isWide b))) λ e₁.
     decide P (eqb b 0x22) (λ e h. rw (eqb-true b 0x22 e)) λ e₂.
     decide P (eqb b 0x0D) (λ e h. rw (eqb-true b 0x0D e)) λ e₃.
@@ -307,7 +303,7 @@ pub data Beside (drops : Bool) : Class → Class → Type 0 where
 
 pub beside :
     (d d′ : Dialect) (b : ℕ)
-    → d′ .delimiterByte ≡ d .delimiterByte → (wide d b ≡ true → d′ .allows bytes ≡ true) → Beside (d′ .allows blanks) (classOf d b) (classOf d′ b)
+    → d′ .delimiterByte ≡ d .delimiterByte → (onlyWide (d .delimiterByte) b ≡ true → d′ .allows bytes ≡ true) → Beside (d′ .allows blanks) (classOf d b) (classOf d′ b)
 unfolding classOf
 beside d d′ b v w =
     rw v

@@ -80,9 +80,9 @@ module _ (d : Dialect) where
   pub holds :
       (t : Table) → Every (λ cs. 1 ≤ length cs) t → None (λ b. classOf d b ≡ forbidden) (textOf t) → None (λ c. contentLimit < length c) (flatten t)
       → None (λ cs. length cs ≡ widthOf t → ⊥) t → CanHold d t
-  holds t full bytes contents rows =
+  holds t fields bytes contents rows =
       record {
-        some-field = full;
+        some-field = fields;
         none-forbidden = every-each (Every Allowing) t (every-each Allowing (flatten t) bytes);
         rules = record {
           rows = equal-rows t rows;

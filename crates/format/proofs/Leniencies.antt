@@ -1,7 +1,7 @@
 -- The dialect grammar adds exactly what its leniencies name: one that is off is not used, and only those that are used matter.
 use Prim.Native.Nat.{ℕ, _+_, _*_, _/_, _%_, _≤_}
 use mathlib.Core.Path.{_≡_, refl, sym, ap, ap₂, subst, fun-ext, _∙_}
-use mathlib.Core.Bool.{Bool, true, false, cond, not, _&&_, _||_, true≢false}
+use mathlib.Core.Bool.{Bool, true, false, cond, not, _||_, true≢false}
 use mathlib.Core.List.{List, [], _∷_}
 use mathlib.Core.Logic.{_⊎_, inl, inr}
 use native.Mathlib.Nat.{zero-add}
@@ -9,12 +9,12 @@ use native.Mathlib.Omega.{arith}
 use lib.Dec.{T, eqb}
 use borrow.Author.Tests.{ne-eqb}
 use Rattle.format.specs.Table.{Bytes, Content, Table, Ending}
-use Rattle.format.specs.Dialect.{Leniency, lf, blanks, ragged, bytes, Dialect, names, dialect, strict, isWide, Class, forbidden, classOf}
+use Rattle.format.specs.Dialect.{Leniency, lf, blanks, ragged, bytes, Dialect, names, dialect, strict, onlyWide, Class, forbidden, classOf}
 use Rattle.format.specs.Grammar.{Blanks, Bare, Inside, Open, Quoted, Field, Record, Break, File}
 use Rattle.format.specs.House.{isRagged, EqualRows, Allowed}
 use Rattle.format.specs.Count.{inRecord, inFile, blankCount, dropped, alone, alones, wides, some, uses, sumOf, reportOf}
 use Rattle.format.specs.Reading.{Reading}
-use Rattle.format.proofs.Classes.{blank-is, quotedClass, wide, not-wide}
+use Rattle.format.proofs.Classes.{blank-is, quotedClass, not-wide}
 use Rattle.format.proofs.Dialects.{solid, NoMoreBlanks, NoLarger, as-large, file-too, same-file}
 
 -- what holds of no bytes, and stays so with each byte before them that is not forbidden, holds of a file
@@ -58,7 +58,7 @@ pub wides-none : (d : Dialect) → wides d [] ≡ 0
 unfolding wides
 wides-none d = refl
 
-pub wides-more : (d : Dialect) (b : ℕ) (f : Bytes) → wides d (b ∷ f) ≡ cond (wide d b) 1 0 + wides d f
+pub wides-more : (d : Dialect) (b : ℕ) (f : Bytes) → wides d (b ∷ f) ≡ cond (onlyWide (d .delimiterByte) b) 1 0 + wides d f
 unfolding wides
 wides-more d b f = refl
 
@@ -72,9 +72,9 @@ pub no-byte-wide : (d : Dialect) → some (wides d []) ≡ false
 unfolding wides
 no-byte-wide d = refl
 
-pub some-wide : (d : Dialect) (b : ℕ) (f : Bytes) → some (wides d (b ∷ f)) ≡ ((isWide b && not (eqb b (d .delimiterByte))) || some (wides d f))
+pub some-wide : (d : Dialect) (b : ℕ) (f : Bytes) → some (wides d (b ∷ f)) ≡ ((onlyWide (d .delimiterByte) b) || some (wides d f))
 unfolding wides
-some-wide d b f = go (isWide b && not (eqb b (d .delimiterByte)))
+some-wide d b f = go (onlyWide (d .delimiterByte) b)
   where
     go : (x : Bool) → some (cond x 1 0 + wides d f) ≡ (x || some (wides d f))
     go true = rw (ne-eqb (1 + wides d f) 0 (λ e. omega arith))

@@ -87,8 +87,8 @@ module _ {A : Type 0} where
   -- lengths so far rise where no list is empty, and only there
   lengths-rise : (n : ℕ) (ls : List (List A)) → Every (λ l. 1 ≤ length l) ls → Ordered _<_ n (lengths n ls)
   unfolding lengths
-  lengths-rise n [] full = tt
-  lengths-rise n (l ∷ ls) full = (omega arith, lengths-rise (n + length l) ls (full .1))
+  lengths-rise n [] some = tt
+  lengths-rise n (l ∷ ls) some = (omega arith, lengths-rise (n + length l) ls (some .1))
 
   lengths-rise-back : (n : ℕ) (ls : List (List A)) → Ordered _<_ n (lengths n ls) → Every (λ l. 1 ≤ length l) ls
   unfolding lengths
@@ -208,8 +208,8 @@ well-formed {text} {ends} rise last-row never-fall last-end =
     }
 
 pub table-well-formed : (t : Table) → Every (λ cs. 1 ≤ length cs) t → WellFormed (textOf t) (endsOf t) (rowsOf t)
-table-well-formed t full =
-    well-formed (lengths-rise 0 t full) (rw (lengths-last, length-lengths) (omega arith))
+table-well-formed t some =
+    well-formed (lengths-rise 0 t some) (rw (lengths-last, length-lengths) (omega arith))
     (lengths-never-fall 0 (flatten t)) (rw lengths-last (omega arith))
 
 pub table-back : (t : Table) → tableOf (textOf t) (endsOf t) (rowsOf t) ≡ t

@@ -11,7 +11,7 @@ use Rattle.format.specs.declared.Place.{Place}
 use Rattle.format.specs.Table.{Bytes, Table}
 use Rattle.format.specs.Dialect.{dialect, delimits, Valid}
 use Rattle.format.specs.House.{fileLimit}
-use Rattle.format.specs.Place.{place, placeOf}
+use Rattle.format.specs.Place.{place, placeOf, nowhere}
 use Rattle.format.specs.Refusal.{Refusal}
 use Rattle.format.specs.Reading.{Reading, Accepted, Refused, refusal-1, refusal-2, in-file}
 use Rattle.format.proofs.Places.{PlaceWithin, place-within}
@@ -37,7 +37,7 @@ module _ {b sum : ℕ} {f : Bytes} where
   one-before (ready v l) (ready w k) = refl
 
   -- the first two are refusals; behind them a reading is accepted, and a refusal is one of the file
-  pub refused-before : {n : ℕ} → Before b sum f n → 1 ≤ n → Refused b sum f n (place 0 0 0)
+  pub refused-before : {n : ℕ} → Before b sum f n → 1 ≤ n → Refused b sum f n nowhere
   refused-before (unknown n) h = refusal-1 n
   refused-before (too-long v l) h = refusal-2 v (omega arith)
   refused-before (ready v l) h = absurd (omega arith)
@@ -64,7 +64,7 @@ some-before b sum f = go (delimits b) (leb sum 15) (leb (length f) fileLimit) re
 
 -- The table's rows from 1 on: the number and the place named, which for 1 and 2 is 0, 0, 0.
 pub data RefusedRow (b sum : ℕ) (f : Bytes) : ℕ → Place → Type 0 where
-  row-1-2 : {n : ℕ} → Before b sum f n → 1 ≤ n → RefusedRow b sum f n (place 0 0 0)
+  row-1-2 : {n : ℕ} → Before b sum f n → 1 ≤ n → RefusedRow b sum f n nowhere
   row-3-10 : {n : ℕ} {p : Place} {found named : Bytes}
       → Before b sum f 0 → Row (dialect b sum) f n found named → RestOf f named → placeOf f named ≡ p → RefusedRow b sum f n p
 

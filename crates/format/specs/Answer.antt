@@ -10,7 +10,7 @@ use Rattle.format.specs.declared.Found.{Found, the-variants.At, the-vari
 use Rattle.format.specs.declared.Part.{Part, the-variants.Lies, the-variants.Absent}
 use Rattle.format.specs.Table.{Table}
 use Rattle.format.specs.Memory.{textOf}
-use Rattle.format.specs.Place.{place}
+use Rattle.format.specs.Place.{place, nowhere}
 
 -- what a table comes to, with its report
 abbrev pub totalsOf : Table → ℕ → Totals
@@ -18,7 +18,7 @@ totalsOf t r = record { records = length t; fields = record { 0 = length (flatte
 
 -- The answer to a file has: refusal, line, column, byte, records, fields, text length, report. Accepted, the first four are 0.
 abbrev pub acceptedWith : Totals → Answer
-acceptedWith s = record { refusal = 0; place = place 0 0 0; totals = s }
+acceptedWith s = record { refusal = 0; place = nowhere; totals = s }
 
 abbrev pub acceptedAs : Table → ℕ → Answer
 acceptedAs t r = acceptedWith (totalsOf t r)

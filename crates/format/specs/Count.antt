@@ -1,10 +1,10 @@
 -- What a reading uses beyond the plain form, counted; and the report, which is the sum of the bits of the leniencies used.
 use Prim.Native.Nat.{ℕ, suc, _+_}
-use mathlib.Core.Bool.{Bool, cond, not, _&&_}
+use mathlib.Core.Bool.{Bool, cond, not}
 use mathlib.Core.List.{List, [], _∷_}
 use lib.Dec.{eqb}
 use Rattle.format.specs.Table.{Bytes, Content, Table, Ending, with-break, without-break}
-use Rattle.format.specs.Dialect.{Leniency, lf, blanks, ragged, bytes, bitOf, Dialect, isWide}
+use Rattle.format.specs.Dialect.{Leniency, lf, blanks, ragged, bytes, bitOf, Dialect, onlyWide}
 use Rattle.format.specs.Grammar.{Blanks, Field, Record, Break, File}
 use Rattle.format.specs.House.{LastBreak, isRagged}
 use Rattle.format.specs.WrittenForms.{needsQuotes}
@@ -55,10 +55,10 @@ missing (without-break f) = 1
 pub data Tally (d : Dialect) (f : Bytes) (t : Table) : ℕ → ℕ → ℕ → ℕ → Type 0 where
   tally : {e : Ending} (p : File d f t e) → LastBreak e → Tally d f t (inFile needless p) (inFile dropped p) (alones p) (missing e)
 
--- bytes that "bytes" allows and that are not the delimiter
+-- bytes that only "bytes" allows
 unfoldable pub wides : Dialect → Bytes → ℕ
 wides d [] = 0
-wides d (b ∷ f) = cond (isWide b && not (eqb b (d .delimiterByte))) 1 0 + wides d f
+wides d (b ∷ f) = cond (onlyWide (d .delimiterByte) b) 1 0 + wides d f
 
 -- which leniencies a reading used: those of which it has some use
 abbrev pub some : ℕ → Bool

@@ -1,6 +1,6 @@
 -- Dialects: a delimiter and a sum of leniencies; and what each byte is in one.
 use Prim.Native.Nat.{ℕ, _≤_, _/_, _%_}
-use mathlib.Core.Bool.{Bool, cond, _&&_, _||_}
+use mathlib.Core.Bool.{Bool, cond, not, _&&_, _||_}
 use lib.Dec.{T, leb, eqb}
 
 -- what may be switched on, by its name
@@ -49,6 +49,10 @@ isPrintable b = leb 0x21 b && leb b 0x7E
 -- what the leniency "bytes" allows: tab, and 0x80 to 0xFF
 abbrev pub isWide : ℕ → Bool
 isWide b = eqb b 0x09 || (leb 0x80 b && leb b 0xFF)
+
+-- where m delimits, only "bytes" allows the byte b: it is such a one, and not m
+abbrev pub onlyWide : ℕ → ℕ → Bool
+onlyWide m b = isWide b && not (eqb b m)
 
 -- The delimiter comes first: with another one comma is text, and tab as delimiter needs no leniency. 0x20 is a blank where "blanks" is on, and else text.
 unfoldable pub classOf : Dialect → ℕ → Class

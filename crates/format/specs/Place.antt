@@ -10,6 +10,10 @@ use Rattle.format.specs.Table.{Bytes}
 abbrev pub place : ℕ → ℕ → ℕ → Place
 place l c b = record { line = record { 0 = l }; column = record { 0 = c }; byte = record { 0 = b } }
 
+-- the place of what names none
+abbrev pub nowhere : Place
+nowhere = place 0 0 0
+
 -- LF bytes, quoted ones included
 unfoldable pub lineFeeds : Bytes → ℕ
 lineFeeds [] = 0

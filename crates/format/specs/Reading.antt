@@ -10,7 +10,7 @@ use Rattle.format.specs.Rfc4180
 use Rattle.format.specs.Grammar.{File}
 use Rattle.format.specs.House.{LastBreak, EmptyFile, fileLimit, Allowed}
 use Rattle.format.specs.Count.{reportOf}
-use Rattle.format.specs.Place.{place, placeOf}
+use Rattle.format.specs.Place.{place, placeOf, nowhere}
 use Rattle.format.specs.Refusal.{Refusal}
 
 -- `Reading d f t r`: in the dialect d the file f holds the table t, and r reports the leniencies used. The file limit is set aside, as demand 3 does.
@@ -30,7 +30,7 @@ pub record Accepted (delimiter sum : ℕ) (f : Bytes) (t : Table) (r : ℕ) : Ty
 
 -- 1, else 2, which name the place 0, 0, 0; else 3 to 10
 pub data Refused (delimiter sum : ℕ) (f : Bytes) : ℕ → Place → Type 0 where
-  refusal-1 : (Valid delimiter sum → ⊥) → Refused delimiter sum f 1 (place 0 0 0)
-  refusal-2 : Valid delimiter sum → fileLimit < length f → Refused delimiter sum f 2 (place 0 0 0)
+  refusal-1 : (Valid delimiter sum → ⊥) → Refused delimiter sum f 1 nowhere
+  refusal-2 : Valid delimiter sum → fileLimit < length f → Refused delimiter sum f 2 nowhere
   in-file : {n : ℕ} {found named : Bytes} {p : Place}
       → Valid delimiter sum → length f ≤ fileLimit → Refusal (dialect delimiter sum) n f found named → placeOf f named ≡ p → Refused delimiter sum f n p

@@ -7,6 +7,15 @@ pub const CONTENT_LIMIT: u32 = 4096;
 
 pub const FILE_LIMIT: u32 = 16777216;
 
+// The bits of the leniencies in a report.
+pub const LF_BIT: u32 = 1;
+
+pub const BLANKS_BIT: u32 = 2;
+
+pub const RAGGED_BIT: u32 = 4;
+
+pub const BYTES_BIT: u32 = 8;
+
 // The largest number of 32 bits, which is the most that ends and rows can count to.
 pub const LARGEST_32: usize = 4294967295;
 

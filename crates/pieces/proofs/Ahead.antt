@@ -9,7 +9,7 @@ use Rattle.format.specs.declared.Place.{Place}
 use Rattle.format.specs.declared.Answer.{Answer}
 use Rattle.format.specs.Answer.{refusedBy}
 use Rattle.format.specs.Table.{Bytes}
-use Rattle.format.specs.Dialect.{lf, names, Dialect, classOf}
+use Rattle.format.specs.Dialect.{onlyWide, lf, names, Dialect, classOf}
 use Rattle.format.specs.Count.{wides, some}
 use Rattle.format.specs.Place.{placeOf}
 use Rattle.format.proofs.Leniencies.{no-byte-wide, some-wide}
@@ -19,7 +19,7 @@ use Rattle.steps.proofs.Tallies.{Work, Ans, stop, gives, closed, recordOn, reco
 use Rattle.steps.proofs.Forward.{Point, opening, ended, acting, comes, andThen, record-then, comes-byte, answer, lastly, comes-end, step-fits}
 use Rattle.state.specs.declared.Check.{Check}
 use Rattle.places.specs.Counters.{moved}
-use Rattle.state.specs.Check.{placed, onlyWide, recordEnded, fed, fedAll}
+use Rattle.state.specs.Check.{placed, recordEnded, fed, fedAll}
 use Rattle.pieces.specs.Asked.{bitIf, totalled, settledAnswer, isOpen, cut}
 use Rattle.state.proofs.Jumps.{fed-is}
 use Rattle.state.proofs.Moves.{fed-none, fed-cons, Refuses, stopped-refuses, placed-refuses, fed-refuses}

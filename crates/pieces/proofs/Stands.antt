@@ -13,7 +13,7 @@ use Rattle.format.specs.Table.{Bytes}
 use Rattle.format.specs.Dialect.{dialect}
 use Rattle.format.specs.House.{fileLimit}
 use Rattle.format.specs.Count.{wides, some}
-use Rattle.format.specs.Place.{place}
+use Rattle.format.specs.Place.{nowhere}
 use Rattle.steps.specs.Model.{any, read, Verdict, accepts, refuses, verdict, isValid, model}
 use Rattle.steps.proofs.Theorems.{one-accepted, one-refused, never-both}
 use Rattle.steps.proofs.Verdicts.{model-invalid, model-long, model-within, Holds, model-holds}
@@ -35,7 +35,7 @@ holds-answers b sum f (refuses n p) h = refused h
 
 asked-inner :
     (c : Check) (x y : Bool) → isValid (c .delimiter) (c .leniencies) ≡ x → leb (c .here .byte .0) fileLimit ≡ y
-    → asked c ≡ cond x (cond y (inner c) (refusedBy 2 (place 0 0 0))) (refusedBy 1 (place 0 0 0))
+    → asked c ≡ cond x (cond y (inner c) (refusedBy 2 nowhere)) (refusedBy 1 nowhere)
 unfolding asked inner
 asked-inner c x y p q = rw (p, q)
 
@@ -71,7 +71,7 @@ module _ (b sum : ℕ) where
     where
       by :
           (x y : Bool) → isValid b sum ≡ x → leb (length f) fileLimit ≡ y
-          → cond x (cond y (inner (fedAll (started b sum) f)) (refusedBy 2 (place 0 0 0))) (refusedBy 1 (place 0 0 0)) ≡ answerOf (model b sum f)
+          → cond x (cond y (inner (fedAll (started b sum) f)) (refusedBy 2 nowhere)) (refusedBy 1 nowhere) ≡ answerOf (model b sum f)
       by true true v e = let h = leb-true (length f) fileLimit e in rw (model-within b sum f v h) (inner-is f h)
       by true false v e = rw (model-long b sum f v (leb-false (length f) fileLimit e))
       by false y v e = rw (model-invalid b sum f v)

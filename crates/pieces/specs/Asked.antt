@@ -7,7 +7,7 @@ use Rattle.format.specs.declared.Answer.{Answer}
 use Rattle.format.specs.Answer.{acceptedWith, refusedBy}
 use Rattle.format.specs.Dialect.{lf, blanks, ragged, bytes, bitOf}
 use Rattle.format.specs.House.{fileLimit}
-use Rattle.format.specs.Place.{place}
+use Rattle.format.specs.Place.{nowhere}
 use Rattle.steps.specs.Model.{isValid}
 use Rattle.steps.specs.Steps.{quoted, cr}
 use Rattle.steps.specs.Numbers.{formNumber}
@@ -46,5 +46,5 @@ cut c =
 unfoldable pub asked : Check → Answer
 asked c =
     cond (isValid (c .delimiter) (c .leniencies))
-    (cond (leb (c .here .byte .0) fileLimit) (cond (isOpen c) (cut c) (settledAnswer c)) (refusedBy 2 (place 0 0 0)))
-    (refusedBy 1 (place 0 0 0))
+    (cond (leb (c .here .byte .0) fileLimit) (cond (isOpen c) (cut c) (settledAnswer c)) (refusedBy 2 nowhere))
+    (refusedBy 1 nowhere)

@@ -234,8 +234,9 @@ fn totalled(check: Check) -> Totals
 {
     let v = check.used;
     let fields = check.counts.fields;
-    let report = bit_if(v.lf, 1)
-        + (bit_if(v.blanks, 2) + (bit_if(v.ragged, 4) + bit_if(v.bytes, 8)));
+    let report = bit_if(v.lf, format::LF_BIT)
+        + (bit_if(v.blanks, format::BLANKS_BIT)
+            + (bit_if(v.ragged, format::RAGGED_BIT) + bit_if(v.bytes, format::BYTES_BIT)));
     Totals {
         records: check.counts.records,
         fields,

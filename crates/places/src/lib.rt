@@ -4,7 +4,7 @@
 // these does, for every place.
 ghost use Prim.Native.Nat.{min};
 ghost use mathlib.Core.Path.{_≡_};
-ghost use Rattle.format.specs.Place.{place};
+ghost use Rattle.format.specs.Place.{place, nowhere};
 ghost use Rattle.places.specs.Counters.{counterLimit, plus, moved, along, spot};
 use format::ByteOffset;
 use format::Column;
@@ -78,7 +78,7 @@ pub fn spot(lines: usize, tail: usize, bytes: usize, p: Place) -> Place
 
 // The place that names nothing.
 pub fn nowhere() -> Place
-    ensures { λ r. ⌜ r ≡ place 0 0 0 ⌝ }
+    ensures { λ r. ⌜ r ≡ nowhere ⌝ }
 {
     let line = Line(0);
     let column = Column(0);

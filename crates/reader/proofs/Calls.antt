@@ -11,7 +11,7 @@ use Rattle.format.specs.declared.Answer.{Answer}
 use Rattle.format.specs.Answer.{acceptedAs, refusedBy}
 use Rattle.format.specs.Table.{Bytes, Table}
 use Rattle.format.specs.Memory.{textOf, endsOf, rowsOf, WellFormed, tableOf}
-use Rattle.format.specs.Place.{place}
+use Rattle.format.specs.Place.{nowhere}
 use Rattle.format.specs.Reading.{Accepted}
 use Rattle.format.proofs.CanHold.{reading-can-hold}
 use Rattle.format.proofs.Memory.{length-lengths, table-well-formed, table-back}
@@ -58,7 +58,7 @@ module _ {b sum : ℕ} {f text : Bytes} {ends rows : List ℕ} where
   one-outcome (ReadOutcome.no-room {n} h k) (ReadOutcome.no-room i l) =
       let e = one-accepted h i in
       let s = one-room (subst (λ (t : Table). NoRoom t text ends rows n) (e .0) k) l in
-      (ap (λ (m : ℕ). refusedBy m (place 0 0 0)) s, refl, refl, refl)
+      (ap (λ (m : ℕ). refusedBy m nowhere) s, refl, refl, refl)
   one-outcome (ReadOutcome.no-room h k) (ReadOutcome.filled {t} i l) =
       absurd (room-or-not (subst (λ (u : Table). Room u text ends rows) (one-accepted i h .0) l) k)
   one-outcome (ReadOutcome.filled h k) (ReadOutcome.refused i) = absurd (never-both h i)
@@ -76,7 +76,7 @@ module _ {b sum : ℕ} {f text : Bytes} {ends rows : List ℕ} where
 pub check-is-read :
     {b sum : ℕ} {f text : Bytes} {ends rows : List ℕ} {a a′ : Answer} {x : Bytes} {y z : List ℕ}
     → Answers b sum f a → ReadOutcome b sum f text ends rows a′ x y z
-    → (a ≡ a′) ⊎ ((t : Table) × (r n : ℕ) × (a ≡ acceptedAs t r) × NoRoom t text ends rows n × (a′ ≡ refusedBy n (place 0 0 0)))
+    → (a ≡ a′) ⊎ ((t : Table) × (r n : ℕ) × (a ≡ acceptedAs t r) × NoRoom t text ends rows n × (a′ ≡ refusedBy n nowhere))
 check-is-read h (ReadOutcome.refused i) = inl (one-answer h (refused i))
 check-is-read h (ReadOutcome.no-room {t} {r} {n} i k) = inr (t, r, n, one-answer h (accepted i), k, refl)
 check-is-read h (ReadOutcome.filled i k) = inl (one-answer h (accepted i))

@@ -8,7 +8,7 @@ use Rattle.format.specs.declared.Answer.{Answer}
 use Rattle.format.specs.Answer.{acceptedAs, refusedBy}
 use Rattle.format.specs.Table.{Bytes, Table}
 use Rattle.format.specs.Dialect.{dialect}
-use Rattle.format.specs.Place.{place}
+use Rattle.format.specs.Place.{nowhere}
 use Rattle.format.specs.Reading.{Accepted}
 use Rattle.format.specs.Memory.{textOf, endsOf, rowsOf}
 use Rattle.steps.proofs.Verdicts.{reading-taken}
@@ -56,24 +56,24 @@ module _ {b sum : ℕ} {f text : Bytes} {ends rows : List ℕ} where
   declines (accepted h) n = absurd (n refl)
   declines (refused h) n = ReadOutcome.refused h
 
-  lacks : {t : Table} {r n : ℕ} {a : Answer} → Accepted b sum f t r → NoRoom t text ends rows n → a ≡ refusedBy n (place 0 0 0)
+  lacks : {t : Table} {r n : ℕ} {a : Answer} → Accepted b sum f t r → NoRoom t text ends rows n → a ≡ refusedBy n nowhere
       → ReadOutcome b sum f text ends rows a text ends rows
   lacks h k e = subst (λ (a : Answer). ReadOutcome b sum f text ends rows a text ends rows) (sym e) (ReadOutcome.no-room h k)
 
   module _ {a′ : Answer} where
     pub lacks-text :
-        {a : Answer} → Takes b sum f a → length text < a .totals .text → a′ ≡ refusedBy 11 (place 0 0 0)
+        {a : Answer} → Takes b sum f a → length text < a .totals .text → a′ ≡ refusedBy 11 nowhere
         → ReadOutcome b sum f text ends rows a′ text ends rows
     lacks-text (takes h) k = lacks h (no-text k)
 
     pub lacks-ends :
-        {a : Answer} → Takes b sum f a → a .totals .text ≤ length text → length ends < a .totals .fields .0 → a′ ≡ refusedBy 12 (place 0 0 0)
+        {a : Answer} → Takes b sum f a → a .totals .text ≤ length text → length ends < a .totals .fields .0 → a′ ≡ refusedBy 12 nowhere
         → ReadOutcome b sum f text ends rows a′ text ends rows
     lacks-ends (takes h) i k = lacks h (no-ends i k)
 
     pub lacks-rows :
         {a : Answer} → Takes b sum f a → a .totals .text ≤ length text → a .totals .fields .0 ≤ length ends → length rows < a .totals .records
-        → a′ ≡ refusedBy 13 (place 0 0 0) → ReadOutcome b sum f text ends rows a′ text ends rows
+        → a′ ≡ refusedBy 13 nowhere → ReadOutcome b sum f text ends rows a′ text ends rows
     lacks-rows (takes h) i j k = lacks h (no-rows i j k)
 
   -- what the second walk has written is the outcome

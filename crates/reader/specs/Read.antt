@@ -6,7 +6,7 @@ use Rattle.format.specs.declared.Place.{Place}
 use Rattle.format.specs.declared.Answer.{Answer}
 use Rattle.format.specs.Table.{Bytes, Table}
 use Rattle.format.specs.Memory.{textOf, endsOf, rowsOf}
-use Rattle.format.specs.Place.{place}
+use Rattle.format.specs.Place.{place, nowhere}
 use Rattle.format.specs.Reading.{Accepted, Refused}
 use Rattle.format.specs.Answer.{acceptedAs, refusedBy}
 use Rattle.format.specs.Filling.{over}
@@ -28,7 +28,7 @@ pub data NoRoom (t : Table) (text : Bytes) (ends rows : List ℕ) : ℕ → Type
 pub data ReadOutcome (b sum : ℕ) (f text : Bytes) (ends rows : List ℕ) : Answer → Bytes → List ℕ → List ℕ → Type 0 where
   refused : {n : ℕ} {p : Place} → Refused b sum f n p → ReadOutcome b sum f text ends rows (refusedBy n p) text ends rows
   no-room : {t : Table} {r n : ℕ}
-      → Accepted b sum f t r → NoRoom t text ends rows n → ReadOutcome b sum f text ends rows (refusedBy n (place 0 0 0)) text ends rows
+      → Accepted b sum f t r → NoRoom t text ends rows n → ReadOutcome b sum f text ends rows (refusedBy n nowhere) text ends rows
   filled : {t : Table} {r : ℕ}
       → Accepted b sum f t r → Room t text ends rows
       → ReadOutcome b sum f text ends rows (acceptedAs t r) (over (textOf t) text) (over (endsOf t) ends) (over (rowsOf t) rows)

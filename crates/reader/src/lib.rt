@@ -8,7 +8,7 @@ ghost use lib.ListN.{length};
 ghost use Rattle.format.specs.Dialect.{dialect};
 ghost use Rattle.format.specs.Filling.{over};
 ghost use Rattle.format.specs.Memory.{largest32};
-ghost use Rattle.format.specs.Place.{place};
+ghost use Rattle.format.specs.Place.{place, nowhere};
 ghost use Rattle.format.specs.Answer.{refusedBy};
 ghost use Rattle.fill.specs.Fill.{textIn, endsIn, rowsIn};
 ghost use Rattle.pieces.specs.Answers.{Answers};
@@ -77,7 +77,7 @@ fn read_accepted(
 
 // The refusal of a buffer that is too small, which names no place.
 fn no_room(n: u8) -> Answer
-    ensures { λ r. ⌜ r ≡ refusedBy n (place 0 0 0) ⌝ }
+    ensures { λ r. ⌜ r ≡ refusedBy n nowhere ⌝ }
 {
     pieces::refused_by(n, places::nowhere())
 }

@@ -12,18 +12,18 @@ use Rattle.writer.proofs.Calls.{one-numbers}
 use Rattle.siprovault.specs.declared.SvWritten.{SvWritten}
 use Rattle.siprovault.specs.declared.SvColumn.{SvColumn}
 use Rattle.siprovault.specs.declared.SvPart.{SvPart}
-use Rattle.siprovault.specs.Face.{writtenNumbers, columnNumbers, foundNumbers, writtenFrom, columnFrom, partFrom}
+use Rattle.siprovault.specs.Face.{svWrittenNumbers, svColumnNumbers, svPartNumbers, writtenFrom, columnFrom, partFrom}
 
 module _ {text : Bytes} {ends rows : List ℕ} where
   pub one-write :
       {mode : ℕ} {out x y : Bytes} {r s : SvWritten}
-      → WriteOutcome text ends rows mode out (writtenNumbers r) x → WriteOutcome text ends rows mode out (writtenNumbers s) y → (r ≡ s) × (x ≡ y)
+      → WriteOutcome text ends rows mode out (svWrittenNumbers r) x → WriteOutcome text ends rows mode out (svWrittenNumbers s) y → (r ≡ s) × (x ≡ y)
   one-write p q = let e = one-numbers p q in (ap writtenFrom (e .0), e .1)
 
   pub one-find :
-      {name : Bytes} {r s : SvColumn} → Searched text ends rows name (columnNumbers r) → Searched text ends rows name (columnNumbers s) → r ≡ s
+      {name : Bytes} {r s : SvColumn} → Searched text ends rows name (svColumnNumbers r) → Searched text ends rows name (svColumnNumbers s) → r ≡ s
   one-find p q = ap columnFrom (one-found p q)
 
   pub one-show :
-      {m n : ℕ} {r s : SvPart} → Located text ends rows m n (foundNumbers r) → Located text ends rows m n (foundNumbers s) → r ≡ s
+      {m n : ℕ} {r s : SvPart} → Located text ends rows m n (svPartNumbers r) → Located text ends rows m n (svPartNumbers s) → r ≡ s
   one-show p q = ap partFrom (one-place p q)

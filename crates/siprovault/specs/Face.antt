@@ -6,14 +6,14 @@ use Rattle.siprovault.specs.declared.SvWritten.{SvWritten}
 use Rattle.siprovault.specs.declared.SvColumn.{SvColumn}
 use Rattle.siprovault.specs.declared.SvPart.{SvPart}
 
-abbrev pub writtenNumbers : SvWritten → List ℕ
-writtenNumbers r = r .refusal ∷ r .line .0 ∷ r .column .0 ∷ r .byte .0 ∷ r .length ∷ []
+abbrev pub svWrittenNumbers : SvWritten → List ℕ
+svWrittenNumbers r = r .refusal ∷ r .line .0 ∷ r .column .0 ∷ r .byte .0 ∷ r .length ∷ []
 
-abbrev pub columnNumbers : SvColumn → List ℕ
-columnNumbers r = r .refusal ∷ 0 ∷ 0 ∷ r .column .0 ∷ []
+abbrev pub svColumnNumbers : SvColumn → List ℕ
+svColumnNumbers r = r .refusal ∷ 0 ∷ 0 ∷ r .column .0 ∷ []
 
-abbrev pub foundNumbers : SvPart → List ℕ
-foundNumbers r = r .found ∷ r .start .0 ∷ r .length ∷ []
+abbrev pub svPartNumbers : SvPart → List ℕ
+svPartNumbers r = r .found ∷ r .start .0 ∷ r .length ∷ []
 
 -- and back: the struct that has the numbers of a list
 abbrev pub writtenFrom : List ℕ → SvWritten

@@ -10,7 +10,7 @@ ghost use Rattle.reader.specs.Read.{ReadOutcome};
 ghost use Rattle.tables.specs.Search.{Searched};
 ghost use Rattle.tables.specs.Shown.{Located};
 ghost use Rattle.writer.specs.Write.{WriteOutcome};
-ghost use Rattle.siprovault.specs.Face.{writtenNumbers, columnNumbers, foundNumbers, writtenFrom, columnFrom, partFrom};
+ghost use Rattle.siprovault.specs.Face.{svWrittenNumbers, svColumnNumbers, svPartNumbers, writtenFrom, columnFrom, partFrom};
 use format::Answer;
 use format::Column;
 use format::FieldNumber;
@@ -110,7 +110,7 @@ pub extern "C" fn sv_write(
     mode: u8,
     out: &mut [u8],
 ) -> SvWritten
-    ensures { λ r. ⌜ WriteOutcome (now (text .entry)) (now (ends .entry)) (now (rows .entry)) mode (now (out .entry)) (writtenNumbers r) (now (out .exit)) ⌝ }
+    ensures { λ r. ⌜ WriteOutcome (now (text .entry)) (now (ends .entry)) (now (rows .entry)) mode (now (out .entry)) (svWrittenNumbers r) (now (out .exit)) ⌝ }
 {
     let answer = writer::write(text, ends, rows, mode, out);
     written(answer)
@@ -119,7 +119,7 @@ pub extern "C" fn sv_write(
 // Finds a column by its name in the header.
 #[no_mangle]
 pub extern "C" fn sv_find_column(text: &[u8], ends: &[u32], rows: &[u32], name: &[u8]) -> SvColumn
-    ensures { λ r. ⌜ Searched (now (text .entry)) (now (ends .entry)) (now (rows .entry)) (now (name .entry)) (columnNumbers r) ⌝ }
+    ensures { λ r. ⌜ Searched (now (text .entry)) (now (ends .entry)) (now (rows .entry)) (now (name .entry)) (svColumnNumbers r) ⌝ }
 {
     found(tables::find_column(text, ends, rows, name))
 }
@@ -133,7 +133,7 @@ pub extern "C" fn sv_show(
     record: usize,
     column: usize,
 ) -> SvPart
-    ensures { λ r. ⌜ Located (now (text .entry)) (now (ends .entry)) (now (rows .entry)) «record» column (foundNumbers r) ⌝ }
+    ensures { λ r. ⌜ Located (now (text .entry)) (now (ends .entry)) (now (rows .entry)) «record» column (svPartNumbers r) ⌝ }
 {
     let r = RecordNumber(at_most(record));
     let c = FieldNumber(at_most(column));

@@ -9,10 +9,10 @@ use lib.ListN.{length, length-append}
 use borrow.Author.Tests.{eqb-true, eqb-false, eq-eqb, ne-eqb}
 use Rattle.format.specs.declared.Place.{Place}
 use Rattle.format.specs.Table.{Bytes}
-use Rattle.format.specs.Dialect.{ragged, names, Dialect, dialect}
+use Rattle.format.specs.Dialect.{onlyWide, ragged, names, Dialect, dialect}
 use Rattle.format.specs.House.{contentLimit, fileLimit}
 use Rattle.format.specs.Count.{some}
-use Rattle.format.specs.Place.{place, placeOf}
+use Rattle.format.specs.Place.{place, placeOf, nowhere}
 use Rattle.format.proofs.Places.{place-first}
 use Rattle.steps.specs.Steps.{Form, start, lead, bare, quoted, shut, tail, cr, Out, nothing, put, hold, drop, field-end, record-end, Act, refuse, go, inQuotes, behindCr}
 use Rattle.steps.specs.Model.{anchor, seen, agrees}
@@ -23,7 +23,7 @@ use Rattle.steps.proofs.Forward.{Point, inside, opening, none, putOn, holdOn, d
 use Rattle.state.specs.declared.Used.{Used}
 use Rattle.state.specs.declared.Check.{Check}
 use Rattle.places.specs.Counters.{plus}
-use Rattle.state.specs.Check.{started, stopped, entered, opened, placed, noting, onlyWide, noted, fieldEnded, recordEnded, stepped}
+use Rattle.state.specs.Check.{started, stopped, entered, opened, placed, noting, noted, fieldEnded, recordEnded, stepped}
 
 -- the dialect bytes, and a file within its limit
 pub record Source : Type 0 where
@@ -118,7 +118,7 @@ module _ (z : Source) (g : Bytes) (r : Running) where
 
 -- where a field begins, the anchor names nothing
 abbrev pub anew : Bool → Point → Running
-anew y t = record { point = t; wide = y; anchor = place 0 0 0 }
+anew y t = record { point = t; wide = y; anchor = nowhere }
 
 -- the end of a field and of a record at p, both before f
 module _ {z : Source} {s g : Bytes} {r : Running} (at : At z s g r) (y : Bool) (f : Bytes) where
@@ -187,8 +187,8 @@ anchorOf (go j nothing) here q = cond (keeps j nothing) q here
 anchorOf (go j put) here q = q
 anchorOf (go j hold) here q = q
 anchorOf (go j drop) here q = q
-anchorOf (go j field-end) here q = place 0 0 0
-anchorOf (go j record-end) here q = place 0 0 0
+anchorOf (go j field-end) here q = nowhere
+anchorOf (go j record-end) here q = nowhere
 
 abbrev pub adds : Source → ℕ → Bytes → Running → Act → Point → Running
 adds z b f r a t = record { point = t; wide = wideOn z b r; anchor = anchorOf a (placeOf (z .file) (b ∷ f)) (r .anchor) }

@@ -2,7 +2,7 @@
 use Prim.Native.Nat.{ℕ}
 use mathlib.Core.Path.{_≡_, refl}
 use Rattle.format.specs.declared.Place.{Place}
-use Rattle.format.specs.Place.{place}
+use Rattle.format.specs.Place.{place, nowhere}
 use Rattle.steps.specs.Steps.{start}
 use Rattle.steps.specs.Numbers.{formNumber}
 use Rattle.places.specs.Counters.{plus}
@@ -24,7 +24,7 @@ pub started-is :
       begun = 0;
       used = record { lf = 0; blanks = 0; ragged = 0; bytes = 0 };
       here = place 1 1 0;
-      anchor = place 0 0 0;
+      anchor = nowhere;
       field = newField (place 1 1 0) 0;
       counts = record { records = 0; fields = record { 0 = 0 }; text = 0; width = 0 };
     }
@@ -61,7 +61,7 @@ pub opened-is :
       begun = b;
       used = v;
       here = p;
-      anchor = place 0 0 0;
+      anchor = nowhere;
       field = x;
       counts = s;
     }

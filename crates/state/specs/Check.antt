@@ -1,13 +1,13 @@
 -- The check's state, and what a byte does to it: for every state.
 use Prim.Native.Nat.{ℕ}
-use mathlib.Core.Bool.{Bool, true, false, cond, not, _&&_, _||_}
+use mathlib.Core.Bool.{Bool, true, false, cond, not, _||_}
 use mathlib.Core.List.{[], _∷_}
 use lib.Dec.{eqb, leb}
 use Rattle.format.specs.declared.Place.{Place}
 use Rattle.format.specs.Table.{Bytes}
-use Rattle.format.specs.Dialect.{lf, ragged, names, dialect, isWide, classOf}
+use Rattle.format.specs.Dialect.{lf, ragged, names, dialect, onlyWide, classOf}
 use Rattle.format.specs.House.{contentLimit}
-use Rattle.format.specs.Place.{place}
+use Rattle.format.specs.Place.{place, nowhere}
 use Rattle.steps.specs.declared.Stepped.{Stepped, the-variants.Refuse, the-variants.Quiet, the-variants.Put, the-variants.Hold, the-variants.Drop, the-variants.EndField, the-variants.EndRecord}
 use Rattle.steps.specs.Steps.{start, shut, cr, stepOf}
 use Rattle.steps.specs.Numbers.{formNumber, formOf, coded}
@@ -32,7 +32,7 @@ started b sum =
       begun = 0;
       used = record { lf = 0; blanks = 0; ragged = 0; bytes = 0 };
       here = place 1 1 0;
-      anchor = place 0 0 0;
+      anchor = nowhere;
       field = newField (place 1 1 0) 0;
       counts = record { records = 0; fields = record { 0 = 0 }; text = 0; width = 0 };
     }
@@ -80,7 +80,7 @@ opened u v x s c =
       begun = u;
       used = v;
       here = c .here;
-      anchor = place 0 0 0;
+      anchor = nowhere;
       field = x;
       counts = s;
     }
@@ -104,10 +104,6 @@ placed p c =
 -- 1 where the test holds, and else what was
 abbrev pub noting : Bool → ℕ → ℕ
 noting x n = cond x 1 n
-
--- only the leniency "bytes" allows the byte b, which is not the delimiter
-abbrev pub onlyWide : ℕ → ℕ → Bool
-onlyWide delimiter b = isWide b && not (eqb b delimiter)
 
 -- the byte b, if only "bytes" allows it
 unfoldable pub noted : ℕ → Check → Used

@@ -4,9 +4,10 @@
 // function here asks anything of its caller. specs/Check.antt says what a byte does to it, for every
 // state.
 ghost use mathlib.Core.Path.{_≡_};
+ghost use Rattle.format.specs.Dialect.{onlyWide};
 ghost use Rattle.steps.specs.Model.{isValid};
 ghost use Rattle.places.specs.Counters.{plus};
-ghost use Rattle.state.specs.Check.{newField, stopped, entered, opened, placed, noting, onlyWide, noted, atEnd, oneField, asWide, oneRecord, fieldEnded, recordEnded, seenAt, grown, stepped, fed, jumped};
+ghost use Rattle.state.specs.Check.{newField, stopped, entered, opened, placed, noting, noted, atEnd, oneField, asWide, oneRecord, fieldEnded, recordEnded, seenAt, grown, stepped, fed, jumped};
 use format::FieldNumber;
 use format::Place;
 use steps::Stepped;

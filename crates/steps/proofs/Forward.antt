@@ -244,7 +244,7 @@ keeps j drop = true
 keeps j field-end = true
 keeps j record-end = true
 
--- the acts that a step may be: a refusal has a number, and a form with a anchor keeps it where the model's does
+-- the acts that a step may be: a refusal has a number, and a form with an anchor keeps it where the model's does
 abbrev pub Fits : Form → Act → Type 0
 Fits k (refuse n) = eqb n 0 ≡ false
 Fits k (go start o) = Unit {0}

@@ -62,7 +62,7 @@ pub past : (n k : ℕ) → NoneBelow n k → k ≤ n
 past n zero h = omega arith
 past n (suc k) h = omega (arith, past n k (h .0), h .1)
 
--- the numbers of a forbidden byte and of specialClass
+-- the numbers of a forbidden byte and of special bytes
 pub forbidden-number : (x : Class) → classNumber x ≡ classNumber forbidden → x ≡ forbidden
 forbidden-number text e = absurd (omega (arith, e))
 forbidden-number blank e = absurd (omega (arith, e))

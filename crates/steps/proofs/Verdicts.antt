@@ -11,7 +11,7 @@ use Rattle.format.specs.Table.{Bytes, Table}
 use Rattle.format.specs.Dialect.{lf, blanks, ragged, bytes, bitOf, Dialect, dialect, delimits, Valid}
 use Rattle.format.specs.House.{EmptyFile, isRagged, fileLimit}
 use Rattle.format.specs.Count.{wides, some, uses, sumOf}
-use Rattle.format.specs.Place.{place, placeOf}
+use Rattle.format.specs.Place.{place, placeOf, nowhere}
 use Rattle.format.specs.Refusal.{Refusal}
 use Rattle.format.specs.Reading.{Reading, Accepted, Refused, refusal-1, refusal-2, in-file}
 use Rattle.steps.specs.Model.{Judged, declined, taken, any, read, used, Verdict, accepts, refuses, verdict, isValid, model}
@@ -118,11 +118,11 @@ module _ (b sum : ℕ) where
       go false e = refl
 
   -- the model, by its tests: the dialect, the file limit, and then its verdict
-  pub model-invalid : (f : Bytes) → isValid b sum ≡ false → model b sum f ≡ refuses 1 (place 0 0 0)
+  pub model-invalid : (f : Bytes) → isValid b sum ≡ false → model b sum f ≡ refuses 1 nowhere
   unfolding model
   model-invalid f e = rw e
 
-  pub model-long : (f : Bytes) → isValid b sum ≡ true → fileLimit < length f → model b sum f ≡ refuses 2 (place 0 0 0)
+  pub model-long : (f : Bytes) → isValid b sum ≡ true → fileLimit < length f → model b sum f ≡ refuses 2 nowhere
   unfolding model
   model-long f e l = rw (e, lt-leb (length f) fileLimit l)
 

@@ -10,7 +10,7 @@ use Rattle.format.specs.declared.Place.{Place}
 use Rattle.format.specs.Dialect.{Leniency, lf, blanks, ragged, bytes, Dialect, dialect, delimits, classOf}
 use Rattle.format.specs.House.{isRagged, contentLimit, fileLimit}
 use Rattle.format.specs.Count.{wides, some, sumOf}
-use Rattle.format.specs.Place.{place, placeOf}
+use Rattle.format.specs.Place.{place, placeOf, nowhere}
 use Rattle.steps.specs.Steps.{Form, start, lead, bare, quoted, shut, tail, cr, nothing, put, hold, drop, field-end, record-end, Act, refuse, go, inQuotes, behindCr, stepOf}
 
 -- the rest of a field's content, and how many blanks are dropped from there on
@@ -160,5 +160,5 @@ isValid b sum = delimits b && leb sum 15
 unfoldable pub model : ℕ → ℕ → Bytes → Verdict
 model b sum f =
     cond (isValid b sum)
-    (cond (leb (length f) fileLimit) (verdict (dialect b sum) f (read (dialect b sum) any f)) (refuses 2 (place 0 0 0)))
-    (refuses 1 (place 0 0 0))
+    (cond (leb (length f) fileLimit) (verdict (dialect b sum) f (read (dialect b sum) any f)) (refuses 2 nowhere))
+    (refuses 1 nowhere)
