@@ -21,7 +21,7 @@ use Rattle.format.proofs.Leniencies.{report-allowed, report-most, by-report}
 use Rattle.format.proofs.Memory.{memory-back}
 use Rattle.format.proofs.Rfc.{strict-is-rfc}
 use Rattle.steps.proofs.Theorems as theorems
-use Rattle.reader.specs.Read.{NoRoom, no-text, no-ends, no-rows, ReadOutcome}
+use Rattle.reader.specs.Read.{ReadOutcome}
 use Rattle.reader.proofs.Calls as reads
 use Rattle.tables.specs.Shown.{Shown}
 use Rattle.tables.proofs.Showing.{one-shown}
@@ -40,12 +40,6 @@ demand-1 =
       refused-read = λ c n. left-alone c n;
       refused-write = λ w n. writes.refused-same (w .promise) n;
     }
-
--- lack of room is 11 to 13
-room-numbers : {t : Table} {text : Bytes} {ends rows : List ℕ} {n : ℕ} → NoRoom t text ends rows n → (11 ≤ n) × (n ≤ 13)
-room-numbers (no-text h) = (omega arith, omega arith)
-room-numbers (no-ends g h) = (omega arith, omega arith)
-room-numbers (no-rows f g h) = (omega arith, omega arith)
 
 abbrev number : Answer → ℕ
 number a = a .refusal
@@ -71,7 +65,7 @@ demand-2 =
             | inl e ↦ inl e
             | inr y ↦
                 let (t, r, n, e, k, q) = y in
-                let (l, u) = room-numbers k in
+                let (l, u) = reads.room-number k in
                 inr (ap number e, omega (arith, l, ap number q), omega (arith, u, ap number q))
           ];
     }

@@ -36,10 +36,11 @@ module _ {t : Table} {text : Bytes} {ends rows : List ℕ} where
   one-room (no-rows f g h) (no-ends i j) = absurd (omega arith)
   one-room (no-rows f g h) (no-rows i j k) = refl
 
-  room-number : {n : ℕ} → NoRoom t text ends rows n → 11 ≤ n
-  room-number (no-text h) = omega arith
-  room-number (no-ends g h) = omega arith
-  room-number (no-rows f g h) = omega arith
+  -- their numbers are 11 to 13
+  pub room-number : {n : ℕ} → NoRoom t text ends rows n → (11 ≤ n) × (n ≤ 13)
+  room-number (no-text h) = (omega arith, omega arith)
+  room-number (no-ends g h) = (omega arith, omega arith)
+  room-number (no-rows f g h) = (omega arith, omega arith)
 
   room-or-not : {n : ℕ} → Room t text ends rows → NoRoom t text ends rows n → ⊥
   room-or-not r (no-text h) = omega (arith, r .for-text)
@@ -96,7 +97,7 @@ module _ {b sum : ℕ} {f text : Bytes} {ends rows : List ℕ} where
   pub not-refused :
       {a : Answer} {x : Bytes} {y z : List ℕ} → ReadOutcome b sum f text ends rows a x y z → a .refusal ≡ 0 → Filled b sum f text ends rows a x y z
   not-refused (ReadOutcome.refused h) e = absurd (omega (arith, refused-number h))
-  not-refused (ReadOutcome.no-room h k) e = absurd (omega (arith, room-number k))
+  not-refused (ReadOutcome.no-room h k) e = absurd (omega (arith, room-number k .0))
   not-refused (ReadOutcome.filled {t} {r} h k) e =
       record { table = t; report = r; accepted = h; room = k; answer-is = refl; text-is = refl; ends-is = refl; rows-is = refl }
 
@@ -129,7 +130,7 @@ pub read-table :
     {b sum : ℕ} {f text : Bytes} {ends rows : List ℕ} {a : Answer} {x : Bytes} {y z : List ℕ}
     → ReadOutcome b sum f text ends rows a x y z → a .refusal ≡ 0 → Holding b sum f (a .totals) x y z
 read-table (ReadOutcome.refused h) e = absurd (omega (arith, refused-number h))
-read-table (ReadOutcome.no-room h k) e = absurd (omega (arith, room-number k))
+read-table (ReadOutcome.no-room h k) e = absurd (omega (arith, room-number k .0))
 read-table {b} {sum} {text} {ends} {rows} (ReadOutcome.filled {t} h k) e =
     record {
       table = t;

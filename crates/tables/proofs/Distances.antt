@@ -10,6 +10,7 @@ use lib.Seq.{drop-cons}
 use Rattle.format.specs.Table.{None}
 use Rattle.format.specs.Memory.{Ordered, gaps}
 use Rattle.format.proofs.First.{none-first}
+use Rattle.format.proofs.Memory.{gaps-more, gaps-none}
 use Rattle.tables.specs.Seek.{Sought, paired, Strays}
 use Rattle.tables.proofs.Seeking.{is-first, is-none, Agree, sought-agree}
 
@@ -69,9 +70,9 @@ module _ (least most : ℕ) where
       back (inr x) = inr (omega (arith, x))
 
   gaps-agree : (n : ℕ) (l : List ℕ) → Ordered _≤_ n l → Agree (Strays least most) (Outside least most) (paired n l) (gaps n l)
-  unfolding paired gaps
-  gaps-agree n [] o = tt
-  gaps-agree n (m ∷ l) o = (by-gap n m (o .0), gaps-agree m l (o .1))
+  unfolding paired
+  gaps-agree n [] o = rw (gaps-none n 0 [] (omega arith)) tt
+  gaps-agree n (m ∷ l) o = rw (gaps-more n 0 (m ∷ l) (omega arith)) (by-gap n m (o .0), gaps-agree m l (o .1))
 
   -- in a list that never falls, a number strays exactly if its gap is outside
   pub sought-gaps : (n : ℕ) (l : List ℕ) {k : ℕ} → Ordered _≤_ n l → Sought (Strays least most) (paired n l) k → Sought (Outside least most) (gaps n l) k
