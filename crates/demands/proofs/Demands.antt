@@ -54,6 +54,7 @@ demand-2 =
       lax-reader = λ c k. (λ p. read-as c p, λ a. reads-as c a k);
       some-table = λ c z. let x = took c z in (x .table, c .answer .totals .report, x .came);
       enough-room = λ a h i j. reads.room-enough a h (omega arith) j;
+      enough-to-write = λ w r. writes.room-enough (w .promise) r;
       one-reading = λ d p q. theorems.one-reading d _ _ _ _ _ p q;
       reads-back = λ {m = m} {mode = mode} {out = out} w e c k.
           let o = subst (λ (a : Written). WriteOutcome (m .text) (m .ends) (m .rows) mode out (writerNumbers a) (w .left)) e (w .promise) in

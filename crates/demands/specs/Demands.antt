@@ -97,6 +97,11 @@ pub record Demand2 : Type 0 where
   pub enough-room :
       {b sum : ℕ} {f : Bytes} {lent : Slices} {t : Table} {r : ℕ}
       → Accepted b sum f t r → length f ≤ length (lent .text) → length f < length (lent .ends) → length f ≤ length (lent .rows) → RoomFor t lent
+  -- (For a written file there is with two bytes for each of the text, three for each field and one for each record, or with as many as a file may have.)
+  pub enough-to-write :
+      {m : Slices} {mode : ℕ} {out : Bytes} (w : Write m mode out)
+      → (2 * length (m .text) + 3 * length (m .ends) + length (m .rows) ≤ length out) ⊎ (fileLimit ≤ length out)
+      → getD (writerNumbers (w .answer)) 0 0 ≡ 15 → ⊥
   -- Each file has one reading.
   pub one-reading : (d : Dialect) {f : Bytes} {t u : Table} {r s : ℕ} → Reading d f t r → Reading d f u s → (t ≡ u) × (r ≡ s)
   -- Whatever our writer accepts reads back as the same table.

@@ -1,13 +1,15 @@
--- How much room a file can ask for: its contents come from its bytes, and each field and each record but one has a byte of its own.
-use Prim.Native.Nat.{ℕ, _+_, _≤_}
+-- How much room a file can ask for: its contents come from its bytes, and each field and each record but one has a byte of its own. And how
+-- much a written table can.
+use Prim.Native.Nat.{ℕ, _+_, _*_, _≤_}
 use native.Mathlib.Omega.{arith}
 use mathlib.Core.List.{List, [], _∷_, flatten}
 use lib.ListN.{length, length-append}
-use Rattle.format.specs.Table.{Bytes, Content, Table, Ending, without-break}
+use Rattle.format.specs.Table.{Bytes, Content, Table, Every, Ending, without-break}
 use Rattle.format.specs.Dialect.{Dialect}
 use Rattle.format.specs.Grammar.{Blanks, Bare, Inside, opened, closed, Field, Record, Break, File}
 use Rattle.format.specs.House.{LastBreak, EmptyFile}
 use Rattle.format.specs.Memory.{textOf}
+use Rattle.format.specs.WrittenForms.{recordBy, tableBy}
 use Rattle.format.specs.Reading.{Reading}
 use Rattle.format.proofs.CanHold.{record-clean}
 use Rattle.format.proofs.Memory.{sizes-more}
@@ -77,3 +79,20 @@ unfolding flatten
 room-enough (Reading.nothing EmptyFile.empty) = record { text = omega arith; ends = omega arith; rows = omega arith }
 room-enough (Reading.something p l a q) =
     record { text = omega (arith, file-room p, file-some p); ends = omega (arith, file-room p); rows = rows-room p l }
+
+-- A written table has at most two bytes for each of its text, three for each field (its quotes, and what parts it from the next) and one more for each
+-- record, whose line break has two.
+module _ (form : Content → Bytes) (d : Dialect) (bound : (c : Content) → length (form c) ≤ 2 * length c + 2) where
+  record-written : (c : Content) (cs : List Content) → length (recordBy form d (c ∷ cs)) + 1 ≤ 2 * length (flatten (c ∷ cs)) + 3 * length (c ∷ cs)
+  unfolding recordBy flatten
+  record-written c [] = omega (arith, bound c, length-append c [])
+  record-written c (e ∷ cs) =
+      omega (arith, bound c, record-written e cs, length-append c (flatten (e ∷ cs)), length-append (form c) (d .delimiterByte ∷ recordBy form d (e ∷ cs)))
+
+  pub written-room : (t : Table) → Every (λ cs. 1 ≤ length cs) t → length (tableBy form d t) ≤ 2 * length (textOf t) + 3 * length (flatten t) + length t
+  unfolding tableBy
+  written-room [] h = omega arith
+  written-room ([] ∷ t) h = absurd (omega (arith, h .0))
+  written-room ((c ∷ cs) ∷ t) h =
+      let (text, fields) = sizes-more (c ∷ cs) t in
+      omega (arith, record-written c cs, written-room t (h .1), text, fields, length-append (recordBy form d (c ∷ cs)) (0x0D ∷ 0x0A ∷ tableBy form d t))

@@ -1,9 +1,10 @@
--- Laws of the call: any two outcomes coincide, and whatever is written reads back.
-use Prim.Native.Nat.{ℕ, _≤_}
+-- Laws of the call: any two outcomes coincide, whatever is written reads back, and how much room is always enough.
+use Prim.Native.Nat.{ℕ, _+_, _*_, _≤_}
 use native.Mathlib.Omega.{arith}
 use mathlib.Core.Path.{_≡_, refl, sym, ap}
 use mathlib.Core.Bool.{Bool, true, false, cond}
-use mathlib.Core.List.{List}
+use mathlib.Core.List.{List, flatten}
+use mathlib.Core.Logic.{_⊎_, inl, inr}
 use lib.Dec.{eqb}
 use lib.ListN.{length, take, getD}
 use lib.Seq.{take-append-seam}
@@ -12,7 +13,7 @@ use Rattle.format.specs.Table.{Bytes, Table, First}
 use Rattle.format.specs.Dialect.{strict}
 use Rattle.format.specs.House.{fileLimit}
 use Rattle.format.specs.Memory.{textOf, WellFormed, tableOf}
-use Rattle.format.specs.WrittenForms.{plain, full, CanHold}
+use Rattle.format.specs.WrittenForms.{tableBy, plain, full, CanHold}
 use Rattle.format.specs.Filling.{over}
 use Rattle.format.specs.Answer.{writerNumbers}
 use Rattle.format.specs.Reading.{Reading, Accepted}
@@ -20,9 +21,12 @@ use Rattle.format.proofs.First.{one-first, none-first}
 use Rattle.format.proofs.Forms.{plain-reads, full-reads}
 use Rattle.format.proofs.Holding.{holds-bytes, holds-contents, holds-rows}
 use Rattle.format.proofs.Leniencies.{strict-report}
-use Rattle.format.proofs.Memory.{memory-back}
+use Rattle.format.proofs.Memory.{table-length, memory-back, fields-length}
 use Rattle.format.proofs.Numbers.{one-write-numbers}
+use Rattle.format.proofs.Room.{written-room}
+use Rattle.writer.specs.Form.{formIn}
 use Rattle.writer.specs.Write.{fileIn, Forbidden, refused, accepted, FileOutcome, TableOutcome, WriteOutcome}
+use Rattle.writer.proofs.Fields.{form-bound, plain-form, full-form}
 
 one-file :
     {file out x y : Bytes} {a b : List ℕ} → FileOutcome file out a x → FileOutcome file out b y → (a ≡ b) × (x ≡ y)
@@ -135,3 +139,31 @@ module _ {text : Bytes} {ends rows : List ℕ} {mode n : ℕ} {out out′ : Byte
         short = rw f (rw (w .size) at (w .short));
         reading = rw f (file-reads mode t (w .holds));
       }
+
+file-room : (mode : ℕ) (t : Table) → CanHold strict t → length (fileIn mode t) ≤ 2 * length (textOf t) + 3 * length (flatten t) + length t
+file-room mode t h = go (eqb mode 0)
+  where
+    by : (full : Bool) → length (tableBy (formIn full) strict t) ≤ 2 * length (textOf t) + 3 * length (flatten t) + length t
+    by full = written-room (formIn full) strict (form-bound full) t (h .some-field)
+
+    go : (x : Bool) → length (cond x (plain strict t) (full strict t)) ≤ 2 * length (textOf t) + 3 * length (flatten t) + length t
+    go true = rw plain-form at (by false)
+    go false = rw full-form at (by true)
+
+-- two bytes for each of the text, three for each field and one for each record are always room enough, and so is the file limit
+module _ {text : Bytes} {ends rows : List ℕ} {mode : ℕ} {out : Bytes} where
+  pub room-enough :
+      {a : List ℕ} {out′ : Bytes} → WriteOutcome text ends rows mode out a out′
+      → (2 * length text + 3 * length ends + length rows ≤ length out) ⊎ (fileLimit ≤ length out) → getD a 0 0 ≡ 15 → ⊥
+  room-enough (WriteOutcome.refusal-1 h) r e = omega arith
+  room-enough (WriteOutcome.refusal-14 h m) r e = omega arith
+  room-enough (WriteOutcome.well-formed h w (TableOutcome.refusal-3 x)) r e = omega arith
+  room-enough (WriteOutcome.well-formed h w (TableOutcome.refusal-9 m x)) r e = omega arith
+  room-enough (WriteOutcome.well-formed h w (TableOutcome.refusal-10 m l x)) r e = omega arith
+  room-enough (WriteOutcome.well-formed h w (TableOutcome.holdable i (FileOutcome.refusal-2 k))) r e = omega arith
+  room-enough (WriteOutcome.well-formed h w (TableOutcome.holdable i (FileOutcome.whole k l))) r e = omega arith
+  room-enough (WriteOutcome.well-formed h w (TableOutcome.holdable i (FileOutcome.refusal-15 k l))) (inl r) e =
+      let t = tableOf text ends rows in
+      let x : length (textOf t) ≡ length text = ap length (memory-back w .0) in
+      omega (arith, file-room mode t i, x, fields-length w, table-length text ends rows)
+  room-enough (WriteOutcome.well-formed h w (TableOutcome.holdable i (FileOutcome.refusal-15 k l))) (inr r) e = omega arith
