@@ -1,6 +1,6 @@
 /*
  * siprovault.h: a CSV reader and writer, proved against RFC 4180's grammar and the house rules.
- * Link with libsiprovault.a (rt staticlib siprovault). C99 and C++.
+ * Link with libsiprovault.a (rt staticlib siprovault), which is for x86-64. C99 and C++.
  *
  * No call keeps anything, allocates anything or fails by a crash: any bytes, any dialect, any buffers.
  * Bad input is refused by number. A refused call leaves every buffer as it was, byte for byte; an
@@ -10,31 +10,9 @@
  * What C cannot promise for its caller:
  * - A pointer with a length above 0 points to that many entries, which nobody else changes during the
  *   call. With length 0 it may be NULL.
+ * - A length counts entries: bytes of a file, a text, a piece or a name, numbers of ends and rows.
+ * - ends and rows are aligned as uint32_t is, at a multiple of 4 bytes.
  * - A buffer that is written overlaps no other argument of the call.
- *
- * Refusals, with the place that each names in a file; a place is a line, a column and a byte. Byte counts
- * from 0. Line is 1 plus the LF bytes before it, quoted ones included; column is 1 plus the bytes since
- * the last LF, or since the file's beginning.
- *    0  accepted
- *    1  unknown delimiter, sum of leniencies above 15, or a writer's mode other than 0 and 1
- *    2  file longer than 16,777,216 bytes
- *    3  forbidden byte: that byte. 0x7F and control bytes other than CR and LF are forbidden, between
- *       quotes too; so are 0x80 to 0xFF and tab without "bytes", but for tab as the delimiter
- *    4  quote in a bare field: that quote
- *    5  wrong byte after a closing quote: that byte
- *    6  CR outside quotes without LF next: the CR
- *    7  LF alone, not allowed: that LF
- *    8  quoted field still open at the end: its opening quote
- *    9  content of a field over 4,096 bytes: the field's first byte, a quote or a blank included
- *   10  record with another number of fields than the first: the first byte of its line break, or the
- *       file's length
- *   11  no room in text
- *   12  no room in ends
- *   13  no room in rows
- *   14  malformed table
- *   15  no room for the written file
- *   16  two equal names in the header
- *   17  no such name, or no records
  */
 #ifndef SIPROVAULT_H
 #define SIPROVAULT_H
@@ -47,21 +25,59 @@ extern "C" {
 #endif
 
 /*
- * A table in memory. text has all contents joined; ends has, for each field, the length of text up to
- * and with it; rows has, for each record, the number of fields up to and with it. It is well formed if
- * rows rise strictly from at least 1, the last row is the number of ends, ends never fall and the last
- * end is the length of text; with no rows, ends and text are empty.
- *
- * A dialect is a delimiter (comma, semicolon, tab or bar) and a sum of leniencies:
- *   1  lf      LF outside quotes, not after CR, ends a record
- *   2  blanks  0x20 at either end of a bare field, before an opening quote or after a closing one, is
- *              dropped
- *   4  ragged  records may have unequal numbers of fields
- *   8  bytes   0x80 to 0xFF and tab count as text
- * Strict is comma with sum 0: RFC 4180 under the house rules, which are that a line break at the file's
- * end closes the last record and no empty record follows it, that the empty file holds no records, that
- * every record has as many fields as the first, and the two limits.
+ * A dialect is a delimiter and a sum of leniencies, as SV_SEMICOLON with SV_LF | SV_BLANKS. With another
+ * delimiter than comma, that byte separates and comma is text. Strict is SV_COMMA with sum 0: RFC 4180
+ * under the house rules, which are that a line break at the file's end closes the last record and no
+ * empty record follows it, that the empty file holds no records, that every record has as many fields as
+ * the first, and the two limits.
  */
+#define SV_COMMA 0x2C
+#define SV_SEMICOLON 0x3B
+#define SV_TAB 0x09
+#define SV_BAR 0x7C
+
+/*
+ * The leniencies, each switched on by its name, and reported when it is used: the report of an answer is
+ * the sum of those that were, so that report & SV_BLANKS is not 0 where a blank was dropped.
+ */
+#define SV_LF 1     /* an LF outside quotes, not after CR, ends a record */
+#define SV_BLANKS 2 /* 0x20 at either end of a bare field, before an opening quote or after a closing
+                       one, is dropped */
+#define SV_RAGGED 4 /* records may have unequal numbers of fields */
+#define SV_BYTES 8  /* 0x80 to 0xFF and tab count as text */
+
+/* The writer's modes. */
+#define SV_PLAIN 0 /* a field is quoted exactly if it holds a comma, a quote, CR or LF */
+#define SV_FULL 1  /* every field is quoted */
+
+/*
+ * The refusals, with the place that each names in a file; a place is a line, a column and a byte. Byte
+ * counts from 0. Line is 1 plus the LF bytes before it, quoted ones included; column is 1 plus the bytes
+ * since the last LF, or since the file's beginning.
+ *
+ * Forbidden, between quotes too, are 0x7F, and control bytes other than CR, LF and an allowed tab. Tab and
+ * 0x80 to 0xFF are allowed under SV_BYTES, tab as the delimiter in any case, and else forbidden.
+ */
+#define SV_ACCEPTED 0
+#define SV_UNKNOWN_DIALECT_OR_MODE 1  /* a delimiter or a mode not named above, or a sum above 15 */
+#define SV_LONG_FILE 2                /* over 16,777,216 bytes */
+#define SV_FORBIDDEN_BYTE 3           /* that byte */
+#define SV_QUOTE_IN_BARE_FIELD 4      /* that quote */
+#define SV_BYTE_AFTER_CLOSING_QUOTE 5 /* the byte that may not stand there */
+#define SV_CR_WITHOUT_LF 6            /* outside quotes: the CR */
+#define SV_LF_WITHOUT_CR 7            /* outside quotes, not allowed: that LF */
+#define SV_QUOTED_FIELD_OPEN 8        /* at the end of the file: its opening quote */
+#define SV_LONG_CONTENT 9             /* of a field, over 4,096 bytes: the field's first byte, a quote or
+                                         a blank included */
+#define SV_UNEQUAL_RECORD 10          /* another number of fields than the first has: the first byte of
+                                         its line break, or the file's length */
+#define SV_NO_ROOM_IN_TEXT 11
+#define SV_NO_ROOM_IN_ENDS 12
+#define SV_NO_ROOM_IN_ROWS 13
+#define SV_MALFORMED_TABLE 14
+#define SV_NO_ROOM_IN_OUT 15 /* for the written file */
+#define SV_EQUAL_NAMES 16    /* two in the header: the later column */
+#define SV_NO_SUCH_NAME 17   /* or no records */
 
 /*
  * The answer to a file. Accepted: refusal, line, column and byte are 0, and the others say what the file
@@ -74,16 +90,33 @@ typedef struct {
 } sv_answer;
 
 /*
+ * A table in memory. text has all contents joined; ends has, for each field, the length of text up to
+ * and with it; rows has, for each record, the number of fields up to and with it. It is well formed if
+ * rows rise strictly from at least 1, the last row is the number of ends, ends never fall and the last
+ * end is the length of text; with no rows, ends and text are empty.
+ *
+ * So field k of the whole table is text from ends[k - 1], or from 0 for the first, up to ends[k], and
+ * column c of record r is field k = c + rows[r - 1], or k = c for the first, if k is less than rows[r].
+ * This goes over all fields of a table that sv_read answered for, once:
+ *
+ *     uint32_t record, field = 0, start = 0;
+ *     for (record = 0; record < answer.records; record++)
+ *         for (; field < rows[record]; start = ends[field++])
+ *             use(record, text + start, ends[field] - start);
+ */
+
+/*
  * Reads a file in a dialect into text, ends and rows. 1, then 2, then the fault found earliest, at one
- * byte the smallest number (3 to 10), then 11, 12, 13 where a buffer is too small: text of the file's
- * length, ends of one more and rows of the file's length are always enough. What is read is handed on
- * with the lengths of the answer (text, fields for ends, records for rows), not of the buffers.
+ * byte the smallest number (3 to 10), then 11, 12, 13 where a buffer is too small. Always enough are
+ * text of file_len, ends of file_len + 1 and rows of file_len entries; sv_check_ask says what a file
+ * needs: text, fields for ends and records for rows of its answer. What is read is handed on with these
+ * lengths of the answer, not with those of the buffers.
  */
 sv_answer sv_read(const uint8_t *file, size_t file_len, uint8_t delimiter, uint8_t leniencies,
                   uint8_t *text, size_t text_len, uint32_t *ends, size_t ends_len, uint32_t *rows,
                   size_t rows_len);
 
-/* Reads a strict file: the same as sv_read at comma and sum 0. */
+/* Reads a strict file: the same as sv_read at SV_COMMA and 0. */
 sv_answer sv_read_strict(const uint8_t *file, size_t file_len, uint8_t *text, size_t text_len,
                          uint32_t *ends, size_t ends_len, uint32_t *rows, size_t rows_len);
 
@@ -121,7 +154,8 @@ sv_check sv_check_feed(sv_check state, const uint8_t *piece, size_t piece_len);
 /*
  * The answer for all bytes so far as one whole file, wherever the cuts fell: that of sv_read, 11 to 13
  * apart. 1 for good in a bad dialect, 2 for good once the bytes pass the limit. It may be asked at any
- * time, and changes nothing.
+ * time, and changes nothing. More bytes may change the answer: what ends within a quoted field is 8 so
+ * far, and half a record 10.
  */
 sv_answer sv_check_ask(sv_check state);
 
@@ -136,10 +170,10 @@ typedef struct {
 } sv_written;
 
 /*
- * Writes a table as a strict file, each record with CRLF, the last too. Mode 0 is plain: a field is
- * quoted exactly if it holds a comma, a quote, CR or LF. Mode 1 is full: every field is quoted. Quotes
- * inside are doubled. The checks come in this order: 1, 14, 3 (a byte outside 0x20 to 0x7E, CR and LF), 9,
- * 10, 2, 15, each with the lowest index. What is written reads back as the table.
+ * Writes a table as a strict file in a mode, each record with CRLF, the last too. Quotes inside are
+ * doubled. The checks come in this order: 1, 14, 3 (a byte outside 0x20 to 0x7E, CR and LF), 9, 10, 2,
+ * 15, each with the lowest index. Always enough for out are 2 * text_len + 3 * ends_len + rows_len bytes,
+ * and 16,777,216. What is written reads back as the table.
  */
 sv_written sv_write(const uint8_t *text, size_t text_len, const uint32_t *ends, size_t ends_len,
                     const uint32_t *rows, size_t rows_len, uint8_t mode, uint8_t *out, size_t out_len);
@@ -151,7 +185,8 @@ typedef struct {
 
 /*
  * Finds a column by its whole name, byte for byte, in the header, which is the first record. 14, then 17
- * with no records, then 16 whatever the name, then the column or 17.
+ * with no records, then 16 whatever the name, then the column or 17. It walks the whole table first, to
+ * see that it is well formed: call it once for a column, and not for each record.
  */
 sv_column sv_find_column(const uint8_t *text, size_t text_len, const uint32_t *ends, size_t ends_len,
                          const uint32_t *rows, size_t rows_len, const uint8_t *name, size_t name_len);
@@ -161,7 +196,11 @@ typedef struct {
     uint32_t found, start, length;
 } sv_part;
 
-/* The field of a record and a column, both from 0. found is 0 in a malformed table too. */
+/*
+ * The field of a record and a column, both from 0. found is 0 in a malformed table too: each call walks
+ * the whole table first, to see that it is well formed. It is for a field or two. A call for every field
+ * would take time by the square of the table: go by ends and rows instead, as above.
+ */
 sv_part sv_show(const uint8_t *text, size_t text_len, const uint32_t *ends, size_t ends_len,
                 const uint32_t *rows, size_t rows_len, size_t record, size_t column);
 
@@ -171,7 +210,10 @@ typedef struct {
     size_t length;
 } sv_bytes;
 
-/* The part of text that sv_show found, or the caller's stand-in. Nothing is copied. */
+/*
+ * The part of text that sv_show found, or the caller's stand-in. Nothing is copied. It takes part at its
+ * word: hand it the text and the part of one and the same sv_show.
+ */
 static inline sv_bytes sv_shown(const uint8_t *text, sv_part part, const uint8_t *stand_in,
                                 size_t stand_in_len)
 {
