@@ -2,6 +2,10 @@
 # What is built is for x86-64; on another processor the kit has an emulator. Nothing needs to be installed
 # beside the kit. kit_archive and kit_compile are called at the top of the repository.
 
+command -v rt >/dev/null || {
+    echo "$0: the Rattle kit's command, rt, is not on this machine" >&2
+    exit 2
+}
 # by itself, since a failure inside another command's words would go unseen
 kit_guide=$(rt doc)
 kit=$(dirname "$(dirname "$kit_guide")")
