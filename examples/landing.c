@@ -36,5 +36,6 @@ int main(void)
         fprintf(stderr, "refused by %u at %u\n", written.refusal, written.byte);
         return 1;
     }
-    return fwrite(out, 1, written.length, stdout) == written.length ? 0 : 2;
+    /* only a flush shows that nothing was left unwritten */
+    return fwrite(out, 1, written.length, stdout) == written.length && fflush(stdout) == 0 ? 0 : 2;
 }

@@ -6,7 +6,7 @@ mod siprovault;
 use siprovault::Table;
 use std::io::Write;
 
-fn main() -> std::io::Result<()> {
+fn main() {
     let landed: [[&str; 3]; 3] = [
         ["buoy", "landed", "remark"],
         ["N01", "2026-11-02", "pole repaired, flag new"],
@@ -32,5 +32,9 @@ fn main() -> std::io::Result<()> {
         eprintln!("refused by {} at {}", written.refusal, written.byte);
         std::process::exit(1);
     }
-    std::io::stdout().write_all(&out[..written.length as usize])
+    let mut file = std::io::stdout();
+    let whole = file.write_all(&out[..written.length as usize]);
+    if whole.is_err() || file.flush().is_err() {
+        std::process::exit(2);
+    }
 }

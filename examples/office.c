@@ -5,6 +5,7 @@
 #include "siprovault.h"
 
 #include <stdio.h>
+#include <string.h>
 
 /* The longest list that is taken here; the other buffers are always enough for it. */
 enum { MOST = 65536 };
@@ -38,10 +39,15 @@ static sv_bytes field(uint32_t record, uint32_t column)
     return found;
 }
 
-static sv_column find(sv_answer answer, const char *name, size_t length)
+/* The column of a name, or -1, with a line that says why there is none. */
+static int64_t find(sv_answer answer, const char *name)
 {
-    return sv_find_column(text, answer.text, ends, answer.fields, rows, answer.records,
-                          (const uint8_t *)name, length);
+    sv_column found = sv_find_column(text, answer.text, ends, answer.fields, rows, answer.records,
+                                     (const uint8_t *)name, strlen(name));
+    if (found.refusal == SV_ACCEPTED)
+        return found.column;
+    printf("no column %s: refused by %u at column %u\n", name, found.refusal, found.column);
+    return -1;
 }
 
 int main(void)
@@ -59,13 +65,11 @@ int main(void)
         return 1;
     }
     print_used(answer.report);
-    sv_column buoy = find(answer, "buoy", 4), remark = find(answer, "remark", 6);
-    if (buoy.refusal != SV_ACCEPTED || remark.refusal != SV_ACCEPTED) {
-        printf("no list of buoys and remarks\n");
+    int64_t buoy = find(answer, "buoy"), remark = find(answer, "remark");
+    if (buoy < 0 || remark < 0)
         return 1;
-    }
     for (uint32_t record = 1; record < answer.records; record++) {
-        sv_bytes name = field(record, buoy.column), words = field(record, remark.column);
+        sv_bytes name = field(record, (uint32_t)buoy), words = field(record, (uint32_t)remark);
         printf("%.*s: %.*s\n", (int)name.length, (const char *)name.bytes, (int)words.length,
                (const char *)words.bytes);
     }

@@ -5,64 +5,78 @@
 mod siprovault;
 
 use siprovault::{Answer, Table, BLANKS, BYTES, LF, RAGGED};
-use std::io::Read;
+use std::io::{Read, Write};
 
-fn print_used(answer: &Answer) {
+/// The longest list that is taken here.
+const MOST: usize = 65536;
+
+fn used(answer: &Answer) -> String {
     let all = [
-        (LF, "lf"),
-        (BLANKS, "blanks"),
-        (RAGGED, "ragged"),
-        (BYTES, "bytes"),
+        (LF, " lf"),
+        (BLANKS, " blanks"),
+        (RAGGED, " ragged"),
+        (BYTES, " bytes"),
     ];
-    print!("leniencies used:");
-    for (leniency, name) in all {
-        if answer.used(leniency) {
-            print!(" {}", name);
-        }
+    let names = all.iter().filter(|one| answer.used(one.0));
+    let line: String = names.map(|one| one.1).collect();
+    if line.is_empty() {
+        return " none".to_string();
     }
-    println!("{}", if answer.report == 0 { " none" } else { "" });
+    line
 }
 
-/// The field of a record and a column; "none" where the record is too short for it.
-fn field(list: &Table, record: usize, column: u32) -> String {
-    let found = list.record(record).nth(column as usize);
-    String::from_utf8_lossy(found.unwrap_or(b"none")).into_owned()
+/// The column of a name, with a line that says why where there is none.
+fn find(list: &Table, name: &str) -> Option<usize> {
+    let found = list.find_column(name.as_bytes());
+    if found.refusal != siprovault::ACCEPTED {
+        println!(
+            "no column {}: refused by {} at column {}",
+            name, found.refusal, found.column
+        );
+        return None;
+    }
+    Some(found.column as usize)
 }
 
-fn main() -> std::io::Result<()> {
-    let mut file = Vec::new();
-    std::io::stdin().read_to_end(&mut file)?;
+/// Shows the list, and gives the exit status.
+fn show(file: &[u8]) -> std::io::Result<i32> {
+    // always enough
     let (mut text, mut rows) = (vec![0; file.len()], vec![0; file.len()]);
     let mut ends = vec![0; file.len() + 1];
     let on = LF | BLANKS | RAGGED | BYTES;
-    let answer = siprovault::read(
-        &file,
-        siprovault::SEMICOLON,
-        on,
-        &mut text,
-        &mut ends,
-        &mut rows,
-    );
+    let delimiter = siprovault::SEMICOLON;
+    let answer = siprovault::read(file, delimiter, on, &mut text, &mut ends, &mut rows);
     if answer.refusal != siprovault::ACCEPTED {
         println!(
             "refused by {} at line {}, column {}",
             answer.refusal, answer.line, answer.column
         );
-        std::process::exit(1);
+        return Ok(1);
     }
-    print_used(&answer);
+    println!("leniencies used:{}", used(&answer));
     let list = Table::of(&answer, &text, &ends, &rows);
-    let (buoy, remark) = (list.find_column(b"buoy"), list.find_column(b"remark"));
-    if buoy.refusal != siprovault::ACCEPTED || remark.refusal != siprovault::ACCEPTED {
-        println!("no list of buoys and remarks");
-        std::process::exit(1);
-    }
+    let (buoy, remark) = match (find(&list, "buoy"), find(&list, "remark")) {
+        (Some(buoy), Some(remark)) => (buoy, remark),
+        _ => return Ok(1),
+    };
+    let mut out = std::io::stdout();
     for record in 1..list.rows.len() {
-        let (name, words) = (
-            field(&list, record, buoy.column),
-            field(&list, record, remark.column),
-        );
-        println!("{}: {}", name, words);
+        // "none" where the record is too short
+        let field = |column| list.record(record).nth(column).unwrap_or(b"none");
+        // the bytes as they are, since they need not be UTF-8
+        out.write_all(&[field(buoy), b": ", field(remark), b"\n"].concat())?;
     }
-    Ok(())
+    Ok(0)
+}
+
+fn main() {
+    let mut file = Vec::new();
+    let read = std::io::stdin()
+        .take(MOST as u64 + 1)
+        .read_to_end(&mut file);
+    if read.is_err() || file.len() > MOST {
+        eprintln!("office: the list cannot be read, or is longer than 65,536 bytes");
+        std::process::exit(2);
+    }
+    std::process::exit(show(&file).unwrap_or(2));
 }

@@ -22,7 +22,7 @@ fn print_answer(answer: &Answer) {
     }
 }
 
-fn main() -> std::io::Result<()> {
+fn check_input() -> std::io::Result<Answer> {
     let mut input = std::io::stdin();
     let mut piece = Vec::new();
     let mut so_far = 0;
@@ -34,8 +34,20 @@ fn main() -> std::io::Result<()> {
         print_answer(&check.ask());
         piece.clear();
     }
-    let answer = check.ask();
+    Ok(check.ask())
+}
+
+fn main() {
+    let answer = match check_input() {
+        Ok(answer) => answer,
+        Err(_) => {
+            eprintln!("pieces: the file cannot be read");
+            std::process::exit(2);
+        }
+    };
     print!("the file: ");
     print_answer(&answer);
-    std::process::exit(if answer.refusal == siprovault::ACCEPTED { 0 } else { 1 });
+    if answer.refusal != siprovault::ACCEPTED {
+        std::process::exit(1);
+    }
 }

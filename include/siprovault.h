@@ -97,12 +97,13 @@ typedef struct {
  *
  * So field k of the whole table is text from ends[k - 1], or from 0 for the first, up to ends[k], and
  * column c of record r is field k = c + rows[r - 1], or k = c for the first, if k is less than rows[r].
- * This goes over all fields of a table that sv_read answered for, once:
+ * This goes once over all fields of a table that sv_read gave, each with where it starts in text and how
+ * long it is:
  *
  *     uint32_t record, field = 0, start = 0;
  *     for (record = 0; record < answer.records; record++)
  *         for (; field < rows[record]; start = ends[field++])
- *             use(record, text + start, ends[field] - start);
+ *             use(record, start, ends[field] - start);
  */
 
 /*
@@ -172,8 +173,8 @@ typedef struct {
 /*
  * Writes a table as a strict file in a mode, each record with CRLF, the last too. Quotes inside are
  * doubled. The checks come in this order: 1, 14, 3 (a byte outside 0x20 to 0x7E, CR and LF), 9, 10, 2,
- * 15, each with the lowest index. Always enough for out are 2 * text_len + 3 * ends_len + rows_len bytes,
- * and 16,777,216. What is written reads back as the table.
+ * 15, each with the lowest index. Always enough for out are 2 * text_len + 3 * ends_len + rows_len bytes;
+ * so are 16,777,216, whatever the table. What is written reads back as the table.
  */
 sv_written sv_write(const uint8_t *text, size_t text_len, const uint32_t *ends, size_t ends_len,
                     const uint32_t *rows, size_t rows_len, uint8_t mode, uint8_t *out, size_t out_len);
@@ -186,7 +187,8 @@ typedef struct {
 /*
  * Finds a column by its whole name, byte for byte, in the header, which is the first record. 14, then 17
  * with no records, then 16 whatever the name, then the column or 17. It walks the whole table first, to
- * see that it is well formed: call it once for a column, and not for each record.
+ * see that it is well formed, and its time grows with the square of the header's columns, rows[0]: call it
+ * once for a column, and not for each record.
  */
 sv_column sv_find_column(const uint8_t *text, size_t text_len, const uint32_t *ends, size_t ends_len,
                          const uint32_t *rows, size_t rows_len, const uint8_t *name, size_t name_len);

@@ -1,5 +1,6 @@
-//! What siprovault.h declares, for Rust: its names without the prefix, and its calls over slices. The header
-//! says what each promises. Take it in by a `mod` with its path, and link libsiprovault.a, which is for x86-64.
+//! What siprovault.h declares, for Rust: its names without SV_, and its calls over slices. The header says what
+//! each promises. Take it in by a `mod` with its path, and link libsiprovault.a, which is for x86-64 Linux. It is
+//! for rustc from 1.63 and for editions up to 2021; for a crate of 2024, compile it as a crate of its own.
 
 #![allow(dead_code)]
 

@@ -16,7 +16,7 @@ static unsigned wrong;
 static void is(const char *what, uint32_t came, uint32_t expected)
 {
     if (came != expected) {
-        printf("%s: %u came, %u by its name\n", what, came, expected);
+        printf("%s: %u came, and not %u\n", what, came, expected);
         wrong++;
     }
 }
@@ -86,11 +86,10 @@ static void refusals(void)
 
 static void dialects(void)
 {
-    static const uint8_t delimiters[] = {SV_COMMA, SV_SEMICOLON, SV_TAB, SV_BAR};
-    for (size_t i = 0; i < sizeof delimiters; i++) {
-        const char bytes[] = {'a', (char)delimiters[i], 'b', 0};
-        is("a delimiter", read_in(delimiters[i], 0, bytes).fields, 2);
-    }
+    is("SV_COMMA", read_in(SV_COMMA, 0, "a,b").fields, 2);
+    is("SV_SEMICOLON", read_in(SV_SEMICOLON, 0, "a;b").fields, 2);
+    is("SV_TAB", read_in(SV_TAB, 0, "a\tb").fields, 2);
+    is("SV_BAR", read_in(SV_BAR, 0, "a|b").fields, 2);
     is("SV_LF", read_in(SV_COMMA, SV_LF, "a\n").report, SV_LF);
     is("SV_BLANKS", read_in(SV_COMMA, SV_BLANKS, " a").report, SV_BLANKS);
     is("SV_RAGGED", read_in(SV_COMMA, SV_RAGGED, "a,b\r\nc").report, SV_RAGGED);
