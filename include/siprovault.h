@@ -187,8 +187,8 @@ typedef struct {
 /*
  * Finds a column by its whole name, byte for byte, in the header, which is the first record. 14, then 17
  * with no records, then 16 whatever the name, then the column or 17. It walks the whole table first, to
- * see that it is well formed, and its time grows with the square of the header's columns, rows[0]: call it
- * once for a column, and not for each record.
+ * see that it is well formed, and compares each two names of the header, so that its time grows with the
+ * square of the columns too: call it once for a column, and not for each record.
  */
 sv_column sv_find_column(const uint8_t *text, size_t text_len, const uint32_t *ends, size_t ends_len,
                          const uint32_t *rows, size_t rows_len, const uint8_t *name, size_t name_len);
