@@ -6,6 +6,9 @@ mod inputs;
 mod ordinary;
 mod other;
 mod ours;
+#[cfg(target_arch = "x86_64")]
+#[path = "../include/siprovault.rs"]
+mod siprovault;
 
 use inputs::{Input, INPUTS, LIMIT};
 use ours::Buffers;

@@ -4,8 +4,7 @@
 const FILE_LIMIT: usize = 16_777_216;
 const CONTENT_LIMIT: usize = 4_096;
 
-/// The eight numbers of an answer; in memory as sv_answer in the C header.
-#[repr(C)]
+/// The eight numbers of an answer.
 #[derive(Clone, Copy, Debug, Default, PartialEq, Eq)]
 pub struct Answer {
     pub refusal: u32,

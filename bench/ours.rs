@@ -1,5 +1,5 @@
-//! The library, called from Rust. On x86-64 it is the archive that ships, through its C face
-//! (include/siprovault.h), and the whole answer is compared. Elsewhere the native build passes structs in
+//! The library, called from Rust. On x86-64 it is the archive that ships, through its face
+//! (include/siprovault.rs), and the whole answer is compared. Elsewhere the native build passes structs in
 //! other registers than the header says, so there the crate `timing` is called: it answers the number
 //! of records alone, 0 where it refuses, and takes whole files alone.
 
@@ -31,68 +31,39 @@ impl Buffers {
 mod face {
     use super::Buffers;
     use crate::ordinary::Answer;
+    use crate::siprovault::{self, Check};
 
     /// What can be compared: the whole answer.
-    pub type Told = Answer;
+    pub type Told = siprovault::Answer;
 
     pub fn told(answer: Answer) -> Told {
-        answer
-    }
-
-    /// sv_check in the header: nine bytes, then sixteen numbers.
-    #[repr(C)]
-    #[derive(Clone, Copy)]
-    struct State([u8; 9], [u32; 16]);
-
-    extern "C" {
-        fn sv_check_start(delimiter: u8, leniencies: u8) -> State;
-        fn sv_check_feed(state: State, piece: *const u8, length: usize) -> State;
-        fn sv_check_ask(state: State) -> Answer;
-        fn sv_read_strict(
-            file: *const u8,
-            length: usize,
-            text: *mut u8,
-            text_length: usize,
-            ends: *mut u32,
-            ends_length: usize,
-            rows: *mut u32,
-            rows_length: usize,
-        ) -> Answer;
+        Told {
+            refusal: answer.refusal,
+            line: answer.line,
+            column: answer.column,
+            byte: answer.byte,
+            records: answer.records,
+            fields: answer.fields,
+            text: answer.text,
+            report: answer.report,
+        }
     }
 
     pub fn check(file: &[u8]) -> Told {
-        unsafe {
-            sv_check_ask(sv_check_feed(
-                sv_check_start(b',', 0),
-                file.as_ptr(),
-                file.len(),
-            ))
-        }
+        Check::start(siprovault::COMMA, 0).feed(file).ask()
     }
 
     /// The check in pieces of so many bytes.
     pub fn check_in_pieces(file: &[u8], size: usize) -> Option<Told> {
-        let mut state = unsafe { sv_check_start(b',', 0) };
-        for piece in file.chunks(size) {
-            state = unsafe { sv_check_feed(state, piece.as_ptr(), piece.len()) };
-        }
-        Some(unsafe { sv_check_ask(state) })
+        let start = Check::start(siprovault::COMMA, 0);
+        let whole = file
+            .chunks(size)
+            .fold(start, |check, piece| check.feed(piece));
+        Some(whole.ask())
     }
 
     pub fn read(file: &[u8], to: &mut Buffers) -> Told {
-        let (text, ends, rows) = (&mut to.text, &mut to.ends, &mut to.rows);
-        unsafe {
-            sv_read_strict(
-                file.as_ptr(),
-                file.len(),
-                text.as_mut_ptr(),
-                text.len(),
-                ends.as_mut_ptr(),
-                ends.len(),
-                rows.as_mut_ptr(),
-                rows.len(),
-            )
-        }
+        siprovault::read_strict(file, &mut to.text, &mut to.ends, &mut to.rows)
     }
 }
 
