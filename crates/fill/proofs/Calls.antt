@@ -3,6 +3,7 @@
 use Prim.Native.Nat.{ℕ}
 use native.Mathlib.Omega.{arith}
 use mathlib.Core.Path.{_≡_, sym, ap, _∙_}
+use mathlib.Core.Bool.{Bool}
 use mathlib.Core.List.{List, _++_}
 use lib.ListN.{length}
 use lib.Seq.{sets, take-append-seam, drop-append-seam}
@@ -27,10 +28,10 @@ module _ {A : Type 0} where
 
 -- the buffers are the same, and so is what is still to come
 pub one-wrote :
-    {d : Dialect} {f : Bytes} {p q q′ : Head} {text ends rows x y z x′ y′ z′ : List ℕ}
-    → Wrote d f p text ends rows q x y z → Wrote d f p text ends rows q′ x′ y′ z′
+    {w : Bool} {d : Dialect} {f : Bytes} {p q q′ : Head} {text ends rows x y z x′ y′ z′ : List ℕ}
+    → Wrote w d f p text ends rows q x y z → Wrote w d f p text ends rows q′ x′ y′ z′
     → q .text ≡ q′ .text → q .ends ≡ q′ .ends → q .rows ≡ q′ .rows
-    → ((x ≡ x′) × (y ≡ y′) × (z ≡ z′)) × ((textAhead d f q ≡ textAhead d f q′) × (endsAhead d f q ≡ endsAhead d f q′) × (rowsAhead d f q ≡ rowsAhead d f q′))
+    → ((x ≡ x′) × (y ≡ y′) × (z ≡ z′)) × ((textAhead d f q ≡ textAhead d f q′) × (endsAhead w d f q ≡ endsAhead w d f q′) × (rowsAhead w d f q ≡ rowsAhead w d f q′))
 one-wrote g h e₁ e₂ e₃ =
     let t = one-grown (g .text-on) (h .text-on) e₁ in
     let u = one-grown (g .ends-on) (h .ends-on) e₂ in

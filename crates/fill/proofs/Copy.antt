@@ -32,25 +32,25 @@ module _
         rw (puts k s b (q .0)) (ap (λ (x : Bytes). b ∷ x) (text-run m l rest (q .1) e j o))
 
     pub ends-run :
-        (m : ℕ) (l : Bytes) (n : ℕ) (rest : List ℕ) → m ≤ run p l → ((k : Form) (u : Bool) → Some k → endsLeft d (drop m l) k 0 (n + m) u ≡ rest)
-        → (k : Form) (u : Bool) → Some k → endsLeft d l k 0 n u ≡ rest
+        (w : Bool) (m : ℕ) (l : Bytes) (n : ℕ) (rest : List ℕ) → m ≤ run p l → ((k : Form) (u : Bool) → Some k → endsLeft w d (drop m l) k 0 (n + m) u ≡ rest)
+        → (k : Form) (u : Bool) → Some k → endsLeft w d l k 0 n u ≡ rest
     unfolding endsLeft
-    ends-run zero l n rest h e k u s = let z : n + 0 ≡ n = omega arith in rw z at (e k u s)
-    ends-run (suc m) [] n rest h e k u s = absurd (omega (arith, run-le p []))
-    ends-run (suc m) (b ∷ l) n rest h e k u s =
+    ends-run w zero l n rest h e k u s = let z : n + 0 ≡ n = omega arith in rw z at (e k u s)
+    ends-run w (suc m) [] n rest h e k u s = absurd (omega (arith, run-le p []))
+    ends-run w (suc m) (b ∷ l) n rest h e k u s =
         let q = run-first p b m l h in
         let z : n + suc m ≡ n + 0 + 1 + m = omega arith in
-        rw (puts k s b (q .0)) (ends-run m l (n + 0 + 1) rest (q .1) (λ k u s. rw z at (e k u s)) j true o)
+        rw (puts k s b (q .0)) (ends-run w m l (n + 0 + 1) rest (q .1) (λ k u s. rw z at (e k u s)) j true o)
 
     pub rows-run :
-        (m : ℕ) (l : Bytes) (n : ℕ) (rest : List ℕ) → m ≤ run p l → ((k : Form) (u : Bool) → Some k → rowsLeft d (drop m l) k n u ≡ rest)
-        → (k : Form) (u : Bool) → Some k → rowsLeft d l k n u ≡ rest
+        (w : Bool) (m : ℕ) (l : Bytes) (n : ℕ) (rest : List ℕ) → m ≤ run p l → ((k : Form) (u : Bool) → Some k → rowsLeft w d (drop m l) k n u ≡ rest)
+        → (k : Form) (u : Bool) → Some k → rowsLeft w d l k n u ≡ rest
     unfolding rowsLeft
-    rows-run zero l n rest h e k u s = e k u s
-    rows-run (suc m) [] n rest h e k u s = absurd (omega (arith, run-le p []))
-    rows-run (suc m) (b ∷ l) n rest h e k u s =
+    rows-run w zero l n rest h e k u s = e k u s
+    rows-run w (suc m) [] n rest h e k u s = absurd (omega (arith, run-le p []))
+    rows-run w (suc m) (b ∷ l) n rest h e k u s =
         let q = run-first p b m l h in
-        rw (puts k s b (q .0)) (rows-run m l n rest (q .1) e j true o)
+        rw (puts k s b (q .0)) (rows-run w m l n rest (q .1) e j true o)
 
 -- the next two bytes
 pub two-at : (f : Bytes) (i : ℕ) {x y : ℕ} → i + 1 < length f → getD f i 0 ≡ x → getD f (i + 1) 0 ≡ y → drop i f ≡ x ∷ (y ∷ drop (i + 2) f)

@@ -174,7 +174,7 @@ module _ (d : Dialect) where
 
   -- ends
   abbrev EndsAre : Bytes → Type 0
-  EndsAre f = (k : Form) (p : Bytes) (h n : ℕ) (u : Bool) → Clean (run d f k p) → endsLeft d f k h n u ≡ orNone u f (endsAhead n h (flow (run d f k p)))
+  EndsAre f = (k : Form) (p : Bytes) (h n : ℕ) (u : Bool) → Clean (run d f k p) → endsLeft true d f k h n u ≡ orNone u f (endsAhead n h (flow (run d f k p)))
 
   ends-put : (n h b : ℕ) (r : Trace) → endsAhead (n + h + 1) 0 (flow r) ≡ endsAhead n h (flow (change (putting b) r))
   ends-put n h b (refused i a p) = refl
@@ -194,7 +194,7 @@ module _ (d : Dialect) where
 
   ends-act :
       (a : Act) (k : Form) (b : ℕ) (f p : Bytes) (h n : ℕ) → EndsAre f → Clean (doing a k b f p (λ j q. run d f j q))
-      → endsBy a h n (λ j i m v. endsLeft d f j i m v) ≡ endsAhead n h (flow (doing a k b f p (λ j q. run d f j q)))
+      → endsBy a h n (λ j i m v. endsLeft true d f j i m v) ≡ endsAhead n h (flow (doing a k b f p (λ j q. run d f j q)))
   unfolding endsLeft
   ends-act (refuse i) k b f p h n ih c = absurd c
   ends-act (go j nothing) k b f p h n ih c = ih j (anchor k j (b ∷ f) p) h n true c
@@ -231,7 +231,7 @@ module _ (d : Dialect) where
 
   -- rows
   abbrev RowsAre : Bytes → Type 0
-  RowsAre f = (k : Form) (p : Bytes) (n : ℕ) (u : Bool) → Clean (run d f k p) → rowsLeft d f k n u ≡ orNone u f (rowsAhead n (run d f k p))
+  RowsAre f = (k : Form) (p : Bytes) (n : ℕ) (u : Bool) → Clean (run d f k p) → rowsLeft true d f k n u ≡ orNone u f (rowsAhead n (run d f k p))
 
   rows-change : (n : ℕ) (φ : Cell → Cell) (r : Trace) → rowsAhead n r ≡ rowsAhead n (change φ r)
   rows-change n φ (refused i a p) = refl
@@ -241,13 +241,13 @@ module _ (d : Dialect) where
 
   rows-act :
       (a : Act) (k : Form) (b : ℕ) (f p : Bytes) (n : ℕ) → RowsAre f → Clean (doing a k b f p (λ j q. run d f j q))
-      → rowsBy a n (λ j m v. rowsLeft d f j m v) ≡ rowsAhead n (doing a k b f p (λ j q. run d f j q))
+      → rowsBy a n (λ j m v. rowsLeft true d f j m v) ≡ rowsAhead n (doing a k b f p (λ j q. run d f j q))
   unfolding rowsLeft
   rows-act (refuse i) k b f p n ih c = absurd c
   rows-act (go j nothing) k b f p n ih c = ih j (anchor k j (b ∷ f) p) n true c
   rows-act (go j put) k b f p n ih c = inside (putting b) j (anchor k j (b ∷ f) p) c
     where
-      inside : (φ : Cell → Cell) (j : Form) (q : Bytes) → Clean (change φ (run d f j q)) → rowsLeft d f j n true ≡ rowsAhead n (change φ (run d f j q))
+      inside : (φ : Cell → Cell) (j : Form) (q : Bytes) → Clean (change φ (run d f j q)) → rowsLeft true d f j n true ≡ rowsAhead n (change φ (run d f j q))
       inside φ j q c = ih j q n true (clean-change φ (run d f j q) c) ∙ rows-change n φ (run d f j q)
   rows-act (go j hold) k b f p n ih c =
       let q = anchor k j (b ∷ f) p in
@@ -336,7 +336,7 @@ module _ (d : Dialect) where
   -- over a whole file that is read as a table
   pub filled :
       (f : Bytes) (t : Table) (m l : ℕ) → read d any f ≡ taken t m l
-      → (textLeft d f start 0 ≡ textOf t) × (endsLeft d f start 0 0 false ≡ endsOf t) × (rowsLeft d f start 0 false ≡ rowsOf t)
+      → (textLeft d f start 0 ≡ textOf t) × (endsLeft true d f start 0 0 false ≡ endsOf t) × (rowsLeft true d f start 0 false ≡ rowsOf t)
   unfolding textLeft endsLeft rowsLeft flatten
   filled [] t m l e =
       let z : [] ≡ t = cc (read-none d any) in

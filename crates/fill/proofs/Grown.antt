@@ -2,6 +2,7 @@
 use Prim.Native.Nat.{ℕ, _+_, _≤_, _<_}
 use native.Mathlib.Omega.{arith}
 use mathlib.Core.Path.{_≡_, refl, sym, ap, _∙_}
+use mathlib.Core.Bool.{Bool}
 use mathlib.Core.List.{List, [], _∷_, _++_, append-assoc}
 use lib.ListN.{length, set, length-append}
 use lib.Seq.{sets, length-sets}
@@ -58,7 +59,7 @@ module _ {A : Type 0} where
   grown-onward g target w = rw (g .buf-is, g .at-is) (pushes (g .new) target (move (g .rest-is) w))
 
 -- the walk stays; it goes on
-pub wrote-none : {d : Dialect} {f : Bytes} {p : Head} {text ends rows : List ℕ} → Wrote d f p text ends rows p text ends rows
+pub wrote-none : {w : Bool} {d : Dialect} {f : Bytes} {p : Head} {text ends rows : List ℕ} → Wrote w d f p text ends rows p text ends rows
 wrote-none =
     record {
       on = omega arith;
@@ -70,8 +71,8 @@ wrote-none =
     }
 
 pub wrote-then :
-    {d : Dialect} {f : Bytes} {p q s : Head} {text ends rows text′ ends′ rows′ text″ ends″ rows″ : List ℕ}
-    → Wrote d f p text ends rows q text′ ends′ rows′ → Wrote d f q text′ ends′ rows′ s text″ ends″ rows″ → Wrote d f p text ends rows s text″ ends″ rows″
+    {w : Bool} {d : Dialect} {f : Bytes} {p q s : Head} {text ends rows text′ ends′ rows′ text″ ends″ rows″ : List ℕ}
+    → Wrote w d f p text ends rows q text′ ends′ rows′ → Wrote w d f q text′ ends′ rows′ s text″ ends″ rows″ → Wrote w d f p text ends rows s text″ ends″ rows″
 wrote-then g h =
     record {
       on = omega (arith, g .on, h .on);
@@ -84,6 +85,6 @@ wrote-then g h =
 
 -- the buffers keep their lengths
 pub wrote-sizes :
-    {d : Dialect} {f : Bytes} {p q : Head} {text ends rows text′ ends′ rows′ : List ℕ} → Wrote d f p text ends rows q text′ ends′ rows′
+    {w : Bool} {d : Dialect} {f : Bytes} {p q : Head} {text ends rows text′ ends′ rows′ : List ℕ} → Wrote w d f p text ends rows q text′ ends′ rows′
     → (length text′ ≡ length text) × (length ends′ ≡ length ends) × (length rows′ ≡ length rows)
 wrote-sizes g = (grown-size (g .text-on), grown-size (g .ends-on), grown-size (g .rows-on))

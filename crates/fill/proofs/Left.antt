@@ -17,22 +17,23 @@ module _ (d : Dialect) where
   unfolding textLeft
   text-byte b f k h = refl
 
-  pub ends-none : (k : Form) (h n : ℕ) (u : Bool) → endsLeft d [] k h n u ≡ cond u (n ∷ []) []
+module _ (w : Bool) (d : Dialect) where
+  pub ends-none : (k : Form) (h n : ℕ) (u : Bool) → endsLeft w d [] k h n u ≡ cond u (cond w (n ∷ []) []) []
   unfolding endsLeft
   ends-none k h n u = refl
 
   pub ends-byte :
       (b : ℕ) (f : Bytes) (k : Form) (h n : ℕ) (u : Bool)
-      → endsLeft d (b ∷ f) k h n u ≡ endsBy (stepOf (d .allows lf) k (classOf d b)) h n (λ j i m v. endsLeft d f j i m v)
+      → endsLeft w d (b ∷ f) k h n u ≡ endsBy (stepOf (d .allows lf) k (classOf d b)) h n (λ j i m v. endsLeft w d f j i m v)
   unfolding endsLeft
   ends-byte b f k h n u = refl
 
-  pub rows-none : (k : Form) (n : ℕ) (u : Bool) → rowsLeft d [] k n u ≡ cond u ((n + 1) ∷ []) []
+  pub rows-none : (k : Form) (n : ℕ) (u : Bool) → rowsLeft w d [] k n u ≡ cond u (cond w ((n + 1) ∷ []) []) []
   unfolding rowsLeft
   rows-none k n u = refl
 
   pub rows-byte :
       (b : ℕ) (f : Bytes) (k : Form) (n : ℕ) (u : Bool)
-      → rowsLeft d (b ∷ f) k n u ≡ rowsBy (stepOf (d .allows lf) k (classOf d b)) n (λ j m v. rowsLeft d f j m v)
+      → rowsLeft w d (b ∷ f) k n u ≡ rowsBy (stepOf (d .allows lf) k (classOf d b)) n (λ j m v. rowsLeft w d f j m v)
   unfolding rowsLeft
   rows-byte b f k n u = refl

@@ -1,5 +1,6 @@
 -- What the second walk over an accepted file still has to write, as functions of the bytes ahead: in the form k, with h blanks held. A step that
--- refuses ends the walk; in an accepted file there is none.
+-- refuses ends the walk; in an accepted file there is none. The bytes ahead may be a part of the file: w says whether the file ends behind them, and
+-- then a record that has begun ends there.
 use Prim.Native.Nat.{ℕ, _+_}
 use mathlib.Core.Bool.{Bool, true, false, cond}
 use mathlib.Core.List.{List, [], _∷_, _++_}
@@ -42,20 +43,20 @@ unfoldable pub textLeft : Dialect → Bytes → Form → ℕ → Bytes
 textLeft d [] k h = []
 textLeft d (b ∷ f) k h = textBy (stepOf (d .allows lf) k (classOf d b)) h b (λ j i. textLeft d f j i)
 
-unfoldable pub endsLeft : Dialect → Bytes → Form → ℕ → ℕ → Bool → List ℕ
-endsLeft d [] k h n u = cond u (n ∷ []) []
-endsLeft d (b ∷ f) k h n u = endsBy (stepOf (d .allows lf) k (classOf d b)) h n (λ j i m v. endsLeft d f j i m v)
+unfoldable pub endsLeft : Bool → Dialect → Bytes → Form → ℕ → ℕ → Bool → List ℕ
+endsLeft w d [] k h n u = cond u (cond w (n ∷ []) []) []
+endsLeft w d (b ∷ f) k h n u = endsBy (stepOf (d .allows lf) k (classOf d b)) h n (λ j i m v. endsLeft w d f j i m v)
 
-unfoldable pub rowsLeft : Dialect → Bytes → Form → ℕ → Bool → List ℕ
-rowsLeft d [] k n u = cond u ((n + 1) ∷ []) []
-rowsLeft d (b ∷ f) k n u = rowsBy (stepOf (d .allows lf) k (classOf d b)) n (λ j m v. rowsLeft d f j m v)
+unfoldable pub rowsLeft : Bool → Dialect → Bytes → Form → ℕ → Bool → List ℕ
+rowsLeft w d [] k n u = cond u (cond w ((n + 1) ∷ []) []) []
+rowsLeft w d (b ∷ f) k n u = rowsBy (stepOf (d .allows lf) k (classOf d b)) n (λ j m v. rowsLeft w d f j m v)
 
 -- what the walk over a whole file has to write: the text, where each field ends in it, and how many fields there are at the end of each record
 abbrev pub textIn : Dialect → Bytes → Bytes
 textIn d f = textLeft d f start 0
 
 abbrev pub endsIn : Dialect → Bytes → List ℕ
-endsIn d f = endsLeft d f start 0 0 false
+endsIn d f = endsLeft true d f start 0 0 false
 
 abbrev pub rowsIn : Dialect → Bytes → List ℕ
-rowsIn d f = rowsLeft d f start 0 false
+rowsIn d f = rowsLeft true d f start 0 false

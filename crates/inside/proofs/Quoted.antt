@@ -42,22 +42,22 @@ module _ (d : Dialect) (f : Bytes) (i : ℕ) (v : i < length f) (e : Puts (getD 
   byte-text : textLeft d (drop i f) quoted 0 ≡ getD f i 0 ∷ textLeft d (drop (i + 1) f) quoted 0
   byte-text = rw (add-one, drop-cons f i 0 v, text-byte d, e d)
 
-  byte-ends : (n : ℕ) → endsLeft d (drop i f) quoted 0 n true ≡ endsLeft d (drop (i + 1) f) quoted 0 (n + 1) true
-  byte-ends n = let z : n + 0 + 1 ≡ n + 1 = omega arith in rw (add-one i, drop-cons f i 0 v, ends-byte d, e d) (ap (λ (k : ℕ). endsLeft d (drop (suc i) f) quoted 0 k true) z)
+  byte-ends : (w : Bool) (n : ℕ) → endsLeft w d (drop i f) quoted 0 n true ≡ endsLeft w d (drop (i + 1) f) quoted 0 (n + 1) true
+  byte-ends w n = let z : n + 0 + 1 ≡ n + 1 = omega arith in rw (add-one i, drop-cons f i 0 v, ends-byte w d, e d) (ap (λ (k : ℕ). endsLeft w d (drop (suc i) f) quoted 0 k true) z)
 
-  byte-rows : (m : ℕ) → rowsLeft d (drop i f) quoted m true ≡ rowsLeft d (drop (i + 1) f) quoted m true
-  byte-rows m = rw (add-one i, drop-cons f i 0 v, rows-byte d, e d)
+  byte-rows : (w : Bool) (m : ℕ) → rowsLeft w d (drop i f) quoted m true ≡ rowsLeft w d (drop (i + 1) f) quoted m true
+  byte-rows w m = rw (add-one i, drop-cons f i 0 v, rows-byte w d, e d)
 
 -- a pair of quotes at i
 module _ (d : Dialect) (o : NoQuote d) (f : Bytes) (i : ℕ) (v : i + 1 < length f) (e₁ : getD f i 0 ≡ 0x22) (e₂ : getD f (i + 1) 0 ≡ 0x22) where
   pair-text : textLeft d (drop i f) quoted 0 ≡ 0x22 ∷ textLeft d (drop (i + 2) f) quoted 0
   pair-text = rw (two-at f i v e₁ e₂, text-byte d, quote-beside d o, quote-shuts (d .allows lf), text-byte d, quote-beside d o, quote-pairs (d .allows lf))
 
-  pair-ends : (n : ℕ) → endsLeft d (drop i f) quoted 0 n true ≡ endsLeft d (drop (i + 2) f) quoted 0 (n + 1) true
-  pair-ends n = let z : n + 0 + 1 ≡ n + 1 = omega arith in rw (two-at f i v e₁ e₂, ends-byte d, quote-beside d o, quote-shuts (d .allows lf), ends-byte d, quote-beside d o, quote-pairs (d .allows lf)) (ap (λ (k : ℕ). endsLeft d (drop (i + 2) f) quoted 0 k true) z)
+  pair-ends : (w : Bool) (n : ℕ) → endsLeft w d (drop i f) quoted 0 n true ≡ endsLeft w d (drop (i + 2) f) quoted 0 (n + 1) true
+  pair-ends w n = let z : n + 0 + 1 ≡ n + 1 = omega arith in rw (two-at f i v e₁ e₂, ends-byte w d, quote-beside d o, quote-shuts (d .allows lf), ends-byte w d, quote-beside d o, quote-pairs (d .allows lf)) (ap (λ (k : ℕ). endsLeft w d (drop (i + 2) f) quoted 0 k true) z)
 
-  pair-rows : (m : ℕ) → rowsLeft d (drop i f) quoted m true ≡ rowsLeft d (drop (i + 2) f) quoted m true
-  pair-rows m = rw (two-at f i v e₁ e₂, rows-byte d, quote-beside d o, quote-shuts (d .allows lf), rows-byte d, quote-beside d o, quote-pairs (d .allows lf))
+  pair-rows : (w : Bool) (m : ℕ) → rowsLeft w d (drop i f) quoted m true ≡ rowsLeft w d (drop (i + 2) f) quoted m true
+  pair-rows w m = rw (two-at f i v e₁ e₂, rows-byte w d, quote-beside d o, quote-shuts (d .allows lf), rows-byte w d, quote-beside d o, quote-pairs (d .allows lf))
 
 -- the start
 pub inside-start : (f : Bytes) (i n : ℕ) (t : Bytes) → i ≤ length f → Inside f i n t i n t
@@ -66,8 +66,8 @@ inside-start f i n t h =
       on = omega arith;
       within = h;
       text-on = λ d o. grown-none refl;
-      ends-on = λ d o. refl;
-      rows-on = λ d o m. refl;
+      ends-on = λ w d o. refl;
+      rows-on = λ w d o m. refl;
     }
 
 module _ {f : Bytes} {a n₀ : ℕ} {t₀ : Bytes} where
@@ -81,8 +81,8 @@ module _ {f : Bytes} {a n₀ : ℕ} {t₀ : Bytes} where
         on = omega (arith, h .on);
         within = omega arith;
         text-on = λ d o. grown-then (h .text-on d o) (grown-one l (byte-text d f i v e));
-        ends-on = λ d o. h .ends-on d o ∙ byte-ends d f i v e n;
-        rows-on = λ d o m. h .rows-on d o m ∙ byte-rows d f i v e m;
+        ends-on = λ w d o. h .ends-on w d o ∙ byte-ends d f i v e w n;
+        rows-on = λ w d o m. h .rows-on w d o m ∙ byte-rows d f i v e w m;
       }
 
   inside-pair :
@@ -93,8 +93,8 @@ module _ {f : Bytes} {a n₀ : ℕ} {t₀ : Bytes} where
         on = omega (arith, h .on);
         within = omega arith;
         text-on = λ d o. grown-then (h .text-on d o) (grown-one l (pair-text d o f i v e₁ e₂));
-        ends-on = λ d o. h .ends-on d o ∙ pair-ends d o f i v e₁ e₂ n;
-        rows-on = λ d o m. h .rows-on d o m ∙ pair-rows d o f i v e₁ e₂ m;
+        ends-on = λ w d o. h .ends-on w d o ∙ pair-ends d o f i v e₁ e₂ w n;
+        rows-on = λ w d o m. h .rows-on w d o m ∙ pair-rows d o f i v e₁ e₂ w m;
       }
 
   pub inside-LF :
@@ -148,8 +148,8 @@ inside-then g h =
       on = omega (arith, g .on, h .on);
       within = h .within;
       text-on = λ d o. grown-then (g .text-on d o) (h .text-on d o);
-      ends-on = λ d o. g .ends-on d o ∙ h .ends-on d o;
-      rows-on = λ d o j. g .rows-on d o j ∙ h .rows-on d o j;
+      ends-on = λ w d o. g .ends-on w d o ∙ h .ends-on w d o;
+      rows-on = λ w d o j. g .rows-on w d o j ∙ h .rows-on w d o j;
     }
 
 pub grows : (y : Bool) (n k : ℕ) → n ≤ cond y (n + k) n
@@ -187,24 +187,24 @@ module _ (f t : Bytes) (i n : ℕ) (v : i < length f) where
   inside-copied k l false e = let z : i + (n - n) ≡ i = omega arith in rw z stays
 
 -- from a head between quotes
-module _ (d : Dialect) (f : Bytes) (p : Head) (text ends rows : List ℕ) (v : p .at < length f) (e₁ : p .form ≡ formNumber quoted) (e₂ : p .held ≡ 0) (o : NoQuote d) where
-  ends-any : (u : Bool) (n : ℕ) → endsLeft d (drop (p .at) f) quoted 0 n u ≡ endsLeft d (drop (p .at) f) quoted 0 n true
-  ends-any u n = rw (drop-cons f (p .at) 0 v) (ends-byte d (getD f (p .at) 0) _ quoted 0 n u ∙ sym (ends-byte d (getD f (p .at) 0) _ quoted 0 n true))
+module _ (w : Bool) (d : Dialect) (f : Bytes) (p : Head) (text ends rows : List ℕ) (v : p .at < length f) (e₁ : p .form ≡ formNumber quoted) (e₂ : p .held ≡ 0) (o : NoQuote d) where
+  ends-any : (u : Bool) (n : ℕ) → endsLeft w d (drop (p .at) f) quoted 0 n u ≡ endsLeft w d (drop (p .at) f) quoted 0 n true
+  ends-any u n = rw (drop-cons f (p .at) 0 v) (ends-byte w d (getD f (p .at) 0) _ quoted 0 n u ∙ sym (ends-byte w d (getD f (p .at) 0) _ quoted 0 n true))
 
-  rows-any : (u : Bool) (n : ℕ) → rowsLeft d (drop (p .at) f) quoted n u ≡ rowsLeft d (drop (p .at) f) quoted n true
-  rows-any u n = rw (drop-cons f (p .at) 0 v) (rows-byte d (getD f (p .at) 0) _ quoted n u ∙ sym (rows-byte d (getD f (p .at) 0) _ quoted n true))
+  rows-any : (u : Bool) (n : ℕ) → rowsLeft w d (drop (p .at) f) quoted n u ≡ rowsLeft w d (drop (p .at) f) quoted n true
+  rows-any u n = rw (drop-cons f (p .at) 0 v) (rows-byte w d (getD f (p .at) 0) _ quoted n u ∙ sym (rows-byte w d (getD f (p .at) 0) _ quoted n true))
 
   module _ {i n : ℕ} {text′ : Bytes} (g : Inside f (p .at) (p .text) text i n text′) where
     text-is : textAhead d f p ≡ textLeft d (drop (p .at) f) quoted 0
     text-is = rw (e₁, e₂, form-back quoted)
 
-    ends-are : endsAhead d f p ≡ endsAhead d f (between i n p)
-    ends-are = rw (e₁, e₂, form-back quoted) (ends-any (p .begun) (p .text) ∙ g .ends-on d o)
+    ends-are : endsAhead w d f p ≡ endsAhead w d f (between i n p)
+    ends-are = rw (e₁, e₂, form-back quoted) (ends-any (p .begun) (p .text) ∙ g .ends-on w d o)
 
-    rows-are : rowsAhead d f p ≡ rowsAhead d f (between i n p)
-    rows-are = rw (e₁, form-back quoted) (rows-any (p .begun) (p .ends) ∙ g .rows-on d o (p .ends))
+    rows-are : rowsAhead w d f p ≡ rowsAhead w d f (between i n p)
+    rows-are = rw (e₁, form-back quoted) (rows-any (p .begun) (p .ends) ∙ g .rows-on w d o (p .ends))
 
-    pub inside-wrote : Wrote d f p text ends rows (between i n p) text′ ends rows
+    pub inside-wrote : Wrote w d f p text ends rows (between i n p) text′ ends rows
     inside-wrote =
         record {
           on = g .on;

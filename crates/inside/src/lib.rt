@@ -1,6 +1,6 @@
 // What stands between quotes, written at once: content in every dialect whose delimiter is no quote.
 ghost use mathlib.Core.Path.{_≡_};
-ghost use mathlib.Core.Bool.{true};
+ghost use mathlib.Core.Bool.{Bool, true};
 ghost use Prim.Native.Nat.{ℕ, _<_};
 ghost use mathlib.Core.List.{List};
 ghost use lib.ListN.{length};
@@ -19,7 +19,7 @@ struct Spot {
 // Writes what stands between quotes, up to a byte that is not content in every dialect or for which
 // there is no room: runs of bytes and LFs as they are, and one quote for each pair.
 pub fn pass_inside(file: &[u8], p: Head, text: &mut [u8]) -> Head
-    ensures { λ r. ⌜ ((d : Dialect) → NoQuote d → (ends rows : List ℕ) → Wrote d (now (file .entry)) p (now (text .entry)) ends rows r (now (text .exit)) ends rows) ⌝ }
+    ensures { λ r. ⌜ ((w : Bool) (d : Dialect) → NoQuote d → (ends rows : List ℕ) → Wrote w d (now (file .entry)) p (now (text .entry)) ends rows r (now (text .exit)) ends rows) ⌝ }
 {
     if !is_inside(p, file.len()) {
         return p;

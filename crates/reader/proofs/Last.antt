@@ -32,18 +32,18 @@ first = record { at = 0; form = formNumber start; held = 0; text = 0; ends = 0; 
 first-text : (d : Dialect) (f : Bytes) → textAhead d f first ≡ textIn d f
 first-text d f = rw (form-back start)
 
-first-ends : (d : Dialect) (f : Bytes) → endsAhead d f first ≡ endsIn d f
+first-ends : (d : Dialect) (f : Bytes) → endsAhead true d f first ≡ endsIn d f
 first-ends d f = rw (form-back start)
 
-first-rows : (d : Dialect) (f : Bytes) → rowsAhead d f first ≡ rowsIn d f
+first-rows : (d : Dialect) (f : Bytes) → rowsAhead true d f first ≡ rowsIn d f
 first-rows d f = rw (form-back start)
 
 pub ample-first :
-    {d : Dialect} {f : Bytes} {text ends rows : List ℕ}
+    {d : Dialect} {f : Bytes} {text ends rows : List ℕ} → length f ≤ 18446744073709551615
     → length (textIn d f) ≤ largest32 → length (endsIn d f) ≤ largest32
     → length (textIn d f) ≤ length text → length (endsIn d f) ≤ length ends → length (rowsIn d f) ≤ length rows
-    → Ample d f first text ends rows
-ample-first {d} {f} a b t u v =
+    → Ample true d f first text ends rows
+ample-first {d} {f} s a b t u v =
     let e₁ = ap length (first-text d f) in
     let e₂ = ap length (first-ends d f) in
     let e₃ = ap length (first-rows d f) in
@@ -52,13 +52,13 @@ ample-first {d} {f} a b t u v =
 -- at the file's end
 module _
     {d : Dialect} {f : Bytes} {q : Head} {text₀ ends₀ rows₀ text ends rows : List ℕ}
-    (m : Ample d f first text₀ ends₀ rows₀) (g : Wrote d f first text₀ ends₀ rows₀ q text ends rows) (h : length f ≤ q .at) {u : Bool} (e : q .begun ≡ u)
+    (m : Ample true d f first text₀ ends₀ rows₀) (g : Wrote true d f first text₀ ends₀ rows₀ q text ends rows) (h : length f ≤ q .at) {u : Bool} (e : q .begun ≡ u)
   where
-    ends-left : endsAhead d f q ≡ cond u (q .text ∷ []) []
-    ends-left = rw (drop-of-length-le f h, ends-none d, e)
+    ends-left : endsAhead true d f q ≡ cond u (q .text ∷ []) []
+    ends-left = rw (drop-of-length-le f h, ends-none true d, e)
 
-    rows-left : rowsAhead d f q ≡ cond u ((q .ends + 1) ∷ []) []
-    rows-left = rw (drop-of-length-le f h, rows-none d, e)
+    rows-left : rowsAhead true d f q ≡ cond u ((q .ends + 1) ∷ []) []
+    rows-left = rw (drop-of-length-le f h, rows-none true d, e)
 
     pub last-text : Filling text (q .text) [] (over (textIn d f) text₀)
     last-text =
@@ -78,7 +78,7 @@ module _
 -- the last record's end and row fit
 pub last-fits :
     {d : Dialect} {f : Bytes} {q : Head} {text₀ ends₀ rows₀ text ends rows : List ℕ}
-    → Ample d f first text₀ ends₀ rows₀ → Wrote d f first text₀ ends₀ rows₀ q text ends rows → length f ≤ q .at → q .begun ≡ true
+    → Ample true d f first text₀ ends₀ rows₀ → Wrote true d f first text₀ ends₀ rows₀ q text ends rows → length f ≤ q .at → q .begun ≡ true
     → endFits q (q .text) true (length ends) (length rows) ≡ true
 last-fits {q = q} {ends = ends} {rows = rows} m g h e =
     let a = ample-on g m in

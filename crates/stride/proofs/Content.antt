@@ -43,11 +43,11 @@ pub record Content (d : Dialect) (f : Bytes) (b c m e : ℕ) : Type 0 where
   pub text-to :
       (rest : Bytes) → ((k : Form) → Ending (d .allows lf) k → textLeft d (drop e f) k 0 ≡ rest) → textLeft d (drop b f) start 0 ≡ take m (drop c f) ++ rest
   pub ends-to :
-      (n : ℕ) (rest : List ℕ) → ((k : Form) (u : Bool) → Ending (d .allows lf) k → endsLeft d (drop e f) k 0 (n + m) u ≡ rest)
-      → (u : Bool) → endsLeft d (drop b f) start 0 n u ≡ rest
+      (w : Bool) (n : ℕ) (rest : List ℕ) → ((k : Form) (u : Bool) → Ending (d .allows lf) k → endsLeft w d (drop e f) k 0 (n + m) u ≡ rest)
+      → (u : Bool) → endsLeft w d (drop b f) start 0 n u ≡ rest
   pub rows-to :
-      (n : ℕ) (rest : List ℕ) → ((k : Form) (u : Bool) → Ending (d .allows lf) k → rowsLeft d (drop e f) k n u ≡ rest)
-      → (u : Bool) → rowsLeft d (drop b f) start n u ≡ rest
+      (w : Bool) (n : ℕ) (rest : List ℕ) → ((k : Form) (u : Bool) → Ending (d .allows lf) k → rowsLeft w d (drop e f) k n u ≡ rest)
+      → (u : Bool) → rowsLeft w d (drop b f) start n u ≡ rest
 
 -- a bare field
 record Bare (y : Bool) (k : Form) : Type 0 where
@@ -70,10 +70,10 @@ bare-content d f b m v l =
       room = omega arith;
       text-to = λ rest h.
           text-run d (isPlain d) (Bare (d .allows lf)) bare (bare-bare _) (puts-text d) m (drop b f) rest l (λ k s. rw (drop-drop m b f) (h k (s .ending))) start (bare-start _);
-      ends-to = λ n rest h u.
-          ends-run d (isPlain d) (Bare (d .allows lf)) bare (bare-bare _) (puts-text d) m (drop b f) n rest l (λ k u s. rw (drop-drop m b f) (h k u (s .ending))) start u (bare-start _);
-      rows-to = λ n rest h u.
-          rows-run d (isPlain d) (Bare (d .allows lf)) bare (bare-bare _) (puts-text d) m (drop b f) n rest l (λ k u s. rw (drop-drop m b f) (h k u (s .ending))) start u (bare-start _);
+      ends-to = λ w n rest h u.
+          ends-run d (isPlain d) (Bare (d .allows lf)) bare (bare-bare _) (puts-text d) w m (drop b f) n rest l (λ k u s. rw (drop-drop m b f) (h k u (s .ending))) start u (bare-start _);
+      rows-to = λ w n rest h u.
+          rows-run d (isPlain d) (Bare (d .allows lf)) bare (bare-bare _) (puts-text d) w m (drop b f) n rest l (λ k u s. rw (drop-drop m b f) (h k u (s .ending))) start u (bare-start _);
     }
 
 pub bare-to : (d : Dialect) (f : Bytes) (b i : ℕ) → b ≤ i → i ≤ length f → i - b ≤ run (isPlain d) (drop b f) → Content d f b b (i - b) i
@@ -92,20 +92,20 @@ module _ (d : Dialect) (o : NoQuote d) (f : Bytes) (i : ℕ) (v : i < length f) 
   open-text : textLeft d (drop i f) start 0 ≡ textLeft d (drop (i + 1) f) quoted 0
   open-text = rw (add-one i, drop-cons f i 0 v, text-byte d, e, quote-beside d o, quote-opens (d .allows lf))
 
-  open-ends : (n : ℕ) (u : Bool) → endsLeft d (drop i f) start 0 n u ≡ endsLeft d (drop (i + 1) f) quoted 0 n true
-  open-ends n u = rw (add-one i, drop-cons f i 0 v, ends-byte d, e, quote-beside d o, quote-opens (d .allows lf))
+  open-ends : (w : Bool) (n : ℕ) (u : Bool) → endsLeft w d (drop i f) start 0 n u ≡ endsLeft w d (drop (i + 1) f) quoted 0 n true
+  open-ends w n u = rw (add-one i, drop-cons f i 0 v, ends-byte w d, e, quote-beside d o, quote-opens (d .allows lf))
 
-  open-rows : (n : ℕ) (u : Bool) → rowsLeft d (drop i f) start n u ≡ rowsLeft d (drop (i + 1) f) quoted n true
-  open-rows n u = rw (add-one i, drop-cons f i 0 v, rows-byte d, e, quote-beside d o, quote-opens (d .allows lf))
+  open-rows : (w : Bool) (n : ℕ) (u : Bool) → rowsLeft w d (drop i f) start n u ≡ rowsLeft w d (drop (i + 1) f) quoted n true
+  open-rows w n u = rw (add-one i, drop-cons f i 0 v, rows-byte w d, e, quote-beside d o, quote-opens (d .allows lf))
 
   shut-text : textLeft d (drop i f) quoted 0 ≡ textLeft d (drop (i + 1) f) shut 0
   shut-text = rw (add-one i, drop-cons f i 0 v, text-byte d, e, quote-beside d o, quote-shuts (d .allows lf))
 
-  shut-ends : (n : ℕ) (u : Bool) → endsLeft d (drop i f) quoted 0 n u ≡ endsLeft d (drop (i + 1) f) shut 0 n true
-  shut-ends n u = rw (add-one i, drop-cons f i 0 v, ends-byte d, e, quote-beside d o, quote-shuts (d .allows lf))
+  shut-ends : (w : Bool) (n : ℕ) (u : Bool) → endsLeft w d (drop i f) quoted 0 n u ≡ endsLeft w d (drop (i + 1) f) shut 0 n true
+  shut-ends w n u = rw (add-one i, drop-cons f i 0 v, ends-byte w d, e, quote-beside d o, quote-shuts (d .allows lf))
 
-  shut-rows : (n : ℕ) (u : Bool) → rowsLeft d (drop i f) quoted n u ≡ rowsLeft d (drop (i + 1) f) shut n true
-  shut-rows n u = rw (add-one i, drop-cons f i 0 v, rows-byte d, e, quote-beside d o, quote-shuts (d .allows lf))
+  shut-rows : (w : Bool) (n : ℕ) (u : Bool) → rowsLeft w d (drop i f) quoted n u ≡ rowsLeft w d (drop (i + 1) f) shut n true
+  shut-rows w n u = rw (add-one i, drop-cons f i 0 v, rows-byte w d, e, quote-beside d o, quote-shuts (d .allows lf))
 
 -- from the quote at b to that at z
 module _
@@ -127,14 +127,14 @@ module _
               open-text d o f b before e₁
               ∙ text-run d isInner (λ (k : Form). k ≡ quoted) quoted refl (puts-quoted d) (z - (b + 1)) (drop (b + 1) f) rest h
               (λ k s. rw (there, s) (shut-text d o f z v e₂ ∙ q shut (ending-shut _))) quoted refl;
-          ends-to = λ n rest q u.
-              open-ends d o f b before e₁ n u
-              ∙ ends-run d isInner (λ (k : Form). k ≡ quoted) quoted refl (puts-quoted d) (z - (b + 1)) (drop (b + 1) f) n rest h
-              (λ k u s. rw (there, s) (shut-ends d o f z v e₂ (n + (z - (b + 1))) u ∙ q shut true (ending-shut _))) quoted true refl;
-          rows-to = λ n rest q u.
-              open-rows d o f b before e₁ n u
-              ∙ rows-run d isInner (λ (k : Form). k ≡ quoted) quoted refl (puts-quoted d) (z - (b + 1)) (drop (b + 1) f) n rest h
-              (λ k u s. rw (there, s) (shut-rows d o f z v e₂ n u ∙ q shut true (ending-shut _))) quoted true refl;
+          ends-to = λ w n rest q u.
+              open-ends d o f b before e₁ w n u
+              ∙ ends-run d isInner (λ (k : Form). k ≡ quoted) quoted refl (puts-quoted d) w (z - (b + 1)) (drop (b + 1) f) n rest h
+              (λ k u s. rw (there, s) (shut-ends d o f z v e₂ w (n + (z - (b + 1))) u ∙ q shut true (ending-shut _))) quoted true refl;
+          rows-to = λ w n rest q u.
+              open-rows d o f b before e₁ w n u
+              ∙ rows-run d isInner (λ (k : Form). k ≡ quoted) quoted refl (puts-quoted d) w (z - (b + 1)) (drop (b + 1) f) n rest h
+              (λ k u s. rw (there, s) (shut-rows d o f z v e₂ w n u ∙ q shut true (ending-shut _))) quoted true refl;
         }
 
 -- a delimiter at e
@@ -142,11 +142,11 @@ module _ (d : Dialect) (f : Bytes) (e : ℕ) (v : e < length f) (q : getD f e 0 
   delimiter-text : textLeft d (drop e f) k 0 ≡ textLeft d (drop (e + 1) f) start 0
   delimiter-text = rw (add-one e, drop-cons f e 0 v, text-byte d, delimiter-at d (getD f e 0) q, s .on-delimiter)
 
-  delimiter-ends : (n : ℕ) (u : Bool) → endsLeft d (drop e f) k 0 n u ≡ n ∷ endsLeft d (drop (e + 1) f) start 0 n true
-  delimiter-ends n u = rw (add-one e, drop-cons f e 0 v, ends-byte d, delimiter-at d (getD f e 0) q, s .on-delimiter)
+  delimiter-ends : (w : Bool) (n : ℕ) (u : Bool) → endsLeft w d (drop e f) k 0 n u ≡ n ∷ endsLeft w d (drop (e + 1) f) start 0 n true
+  delimiter-ends w n u = rw (add-one e, drop-cons f e 0 v, ends-byte w d, delimiter-at d (getD f e 0) q, s .on-delimiter)
 
-  delimiter-rows : (n : ℕ) (u : Bool) → rowsLeft d (drop e f) k n u ≡ rowsLeft d (drop (e + 1) f) start (n + 1) true
-  delimiter-rows n u = rw (add-one e, drop-cons f e 0 v, rows-byte d, delimiter-at d (getD f e 0) q, s .on-delimiter)
+  delimiter-rows : (w : Bool) (n : ℕ) (u : Bool) → rowsLeft w d (drop e f) k n u ≡ rowsLeft w d (drop (e + 1) f) start (n + 1) true
+  delimiter-rows w n u = rw (add-one e, drop-cons f e 0 v, rows-byte w d, delimiter-at d (getD f e 0) q, s .on-delimiter)
 
 -- a break there, where neither of its bytes is the delimiter
 pub record Break (d : Dialect) (f : Bytes) (e : ℕ) : Type 0 where
@@ -161,11 +161,11 @@ module _ (d : Dialect) (f : Bytes) (e : ℕ) (q : Break d f e) (k : Form) (s : E
   break-text : textLeft d (drop e f) k 0 ≡ textLeft d (drop (e + 2) f) start 0
   break-text = rw (two, text-byte d, CR-beside d (q .no-cr), s .on-CR, text-byte d, LF-beside d (q .no-lf), CR-LF (d .allows lf))
 
-  break-ends : (n : ℕ) (u : Bool) → endsLeft d (drop e f) k 0 n u ≡ n ∷ endsLeft d (drop (e + 2) f) start 0 n false
-  break-ends n u = rw (two, ends-byte d, CR-beside d (q .no-cr), s .on-CR, ends-byte d, LF-beside d (q .no-lf), CR-LF (d .allows lf))
+  break-ends : (w : Bool) (n : ℕ) (u : Bool) → endsLeft w d (drop e f) k 0 n u ≡ n ∷ endsLeft w d (drop (e + 2) f) start 0 n false
+  break-ends w n u = rw (two, ends-byte w d, CR-beside d (q .no-cr), s .on-CR, ends-byte w d, LF-beside d (q .no-lf), CR-LF (d .allows lf))
 
-  break-rows : (n : ℕ) (u : Bool) → rowsLeft d (drop e f) k n u ≡ (n + 1) ∷ rowsLeft d (drop (e + 2) f) start (n + 1) false
-  break-rows n u = rw (two, rows-byte d, CR-beside d (q .no-cr), s .on-CR, rows-byte d, LF-beside d (q .no-lf), CR-LF (d .allows lf))
+  break-rows : (w : Bool) (n : ℕ) (u : Bool) → rowsLeft w d (drop e f) k n u ≡ (n + 1) ∷ rowsLeft w d (drop (e + 2) f) start (n + 1) false
+  break-rows w n u = rw (two, rows-byte w d, CR-beside d (q .no-cr), s .on-CR, rows-byte w d, LF-beside d (q .no-lf), CR-LF (d .allows lf))
 
 -- a field at whose start the walk is, with its content
 module _ (d : Dialect) (f : Bytes) (p : Head) (e₁ : p .form ≡ formNumber start) (e₂ : p .held ≡ 0) (c k e : ℕ) (o : Content d f (p .at) c k e) where
@@ -176,8 +176,8 @@ module _ (d : Dialect) (f : Bytes) (p : Head) (e₁ : p .form ≡ formNumber sta
         further = omega arith;
         inside = omega arith;
         text-is = rw (e₁, e₂, form-back start) (o .text-to _ (delimiter-text d f e v q));
-        ends-are = rw (e₁, e₂, form-back start) (o .ends-to (p .text) _ (λ j x s. delimiter-ends d f e v q j s (p .text + k) x) (p .begun));
-        rows-are = rw (e₁, form-back start) (o .rows-to (p .ends) _ (λ j x s. delimiter-rows d f e v q j s (p .ends) x) (p .begun));
+        ends-are = λ w. rw (e₁, e₂, form-back start) (o .ends-to w (p .text) _ (λ j x s. delimiter-ends d f e v q j s w (p .text + k) x) (p .begun));
+        rows-are = λ w. rw (e₁, form-back start) (o .rows-to w (p .ends) _ (λ j x s. delimiter-rows d f e v q j s w (p .ends) x) (p .begun));
       }
 
   ends-record : Break d f e → Ends d f p (take k (drop c f)) (e + 2) true (p .text + k)
@@ -188,8 +188,8 @@ module _ (d : Dialect) (f : Bytes) (p : Head) (e₁ : p .form ≡ formNumber sta
         further = omega arith;
         inside = omega arith;
         text-is = rw (e₁, e₂, form-back start) (o .text-to _ (break-text d f e q));
-        ends-are = rw (e₁, e₂, form-back start) (o .ends-to (p .text) _ (λ j x s. break-ends d f e q j s (p .text + k) x) (p .begun));
-        rows-are = rw (e₁, form-back start) (o .rows-to (p .ends) _ (λ j x s. break-rows d f e q j s (p .ends) x) (p .begun));
+        ends-are = λ w. rw (e₁, e₂, form-back start) (o .ends-to w (p .text) _ (λ j x s. break-ends d f e q j s w (p .text + k) x) (p .begun));
+        rows-are = λ w. rw (e₁, form-back start) (o .rows-to w (p .ends) _ (λ j x s. break-rows d f e q j s w (p .ends) x) (p .begun));
       }
 
   pub ends-at : (d .delimiterByte ≡ 0x0A → ⊥) → {n : ℕ} → EndAt f (d .delimiterByte) e n → Ends d f p (take k (drop c f)) (e + n) (eqb n 2) (p .text + k)
@@ -200,4 +200,4 @@ module _ (d : Dialect) (f : Bytes) (p : Head) (e₁ : p .form ≡ formNumber sta
 pub one-found :
     {d : Dialect} {f : Bytes} {p : Head} {q : ℕ} {r s : Field} → Found d f p q r → Found d f p q s → Plain d f p q → r .from ≤ r .to → s .from ≤ s .to
     → endOf p r ≡ endOf p s
-one-found g h o l m = ap (λ (e : List ℕ). getD e 0 0) (sym (g .ends o l .ends-are) ∙ h .ends o m .ends-are)
+one-found g h o l m = ap (λ (e : List ℕ). getD e 0 0) (sym (g .ends o l .ends-are true) ∙ h .ends o m .ends-are true)

@@ -26,8 +26,8 @@ use Rattle.stride.specs.Stride.{Ample, Ends}
 
 -- room for what is ahead stays
 pub ample-on :
-    {d : Dialect} {f : Bytes} {p q : Head} {text ends rows text′ ends′ rows′ : List ℕ} → Wrote d f p text ends rows q text′ ends′ rows′
-    → Ample d f p text ends rows → Ample d f q text′ ends′ rows′
+    {w : Bool} {d : Dialect} {f : Bytes} {p q : Head} {text ends rows text′ ends′ rows′ : List ℕ} → Wrote w d f p text ends rows q text′ ends′ rows′
+    → Ample w d f p text ends rows → Ample w d f q text′ ends′ rows′
 ample-on g h =
     let t = grown-all (g .text-on) in
     let u = grown-all (g .ends-on) in
@@ -43,76 +43,76 @@ ample-on g h =
 
 -- a field that ends, written
 ends-wrote :
-    {d : Dialect} {f : Bytes} {p : Head} {w : Bytes} {next : ℕ} {row : Bool} {n : ℕ} (text ends rows : List ℕ) → Ends d f p w next row n
-    → EndRoom p n row (length ends) (length rows) → n ≡ p .text + length w → length w ≤ length text - p .text
-    → Wrote d f p text ends rows (behind p next row n) (sets text (p .text) w) (set ends (p .ends) n) (rowsWith p row rows)
-ends-wrote {d} {f} {p} {w} {next} {row} {n} text ends rows h r e l =
+    {w : Bool} {d : Dialect} {f : Bytes} {p : Head} {c : Bytes} {next : ℕ} {row : Bool} {n : ℕ} (text ends rows : List ℕ) → Ends d f p c next row n
+    → EndRoom p n row (length ends) (length rows) → n ≡ p .text + length c → length c ≤ length text - p .text
+    → Wrote w d f p text ends rows (behind p next row n) (sets text (p .text) c) (set ends (p .ends) n) (rowsWith p row rows)
+ends-wrote {w} {d} {f} {p} {c} {next} {row} {n} text ends rows h r e l =
     let further = h .further in
     record {
       on = omega arith;
       inside = λ i. h .inside;
       held = omega arith;
-      text-on = record { new = w; rest-is = h .text-is; room = l; buf-is = refl; at-is = e };
-      ends-on = grown-one (r .ends-room) (h .ends-are);
-      rows-on = by row (r .rows-room) (h .rows-are);
+      text-on = record { new = c; rest-is = h .text-is; room = l; buf-is = refl; at-is = e };
+      ends-on = grown-one (r .ends-room) (h .ends-are w);
+      rows-on = by row (r .rows-room) (h .rows-are w);
     }
   where
-    by : (x : Bool) → (x ≡ true → p .rows < length rows) → rowsAhead d f p ≡ cond x ((p .ends + 1) ∷ []) [] ++ rowsAhead d f (behind p next row n)
-        → Grown rows (p .rows) (rowsAhead d f p) (rowsWith p x rows) (p .rows + cond x 1 0) (rowsAhead d f (behind p next row n))
+    by : (x : Bool) → (x ≡ true → p .rows < length rows) → rowsAhead w d f p ≡ cond x ((p .ends + 1) ∷ []) [] ++ rowsAhead w d f (behind p next row n)
+        → Grown rows (p .rows) (rowsAhead w d f p) (rowsWith p x rows) (p .rows + cond x 1 0) (rowsAhead w d f (behind p next row n))
     by true k q = grown-one (k refl) q
     by false k q = let z : p .rows + 0 ≡ p .rows = omega arith in rw z (grown-none q)
 
 -- by put_field and by put_end
 pub field-wrote :
-    {d : Dialect} {f : Bytes} (p : Head) (x : Field) (text ends rows : List ℕ)
+    {w : Bool} {d : Dialect} {f : Bytes} (p : Head) (x : Field) (text ends rows : List ℕ)
     → (x .from ≤ x .to → Ends d f p (take (x .to - x .from) (drop (x .from) f)) (x .next) (x .row) (endOf p x))
     → (y : Bool) → fieldFits p x (length f) (length text) (length ends) (length rows) ≡ y
-    → Wrote d f p text ends rows (cond y (behind p (x .next) (x .row) (endOf p x)) p) (cond y (sets text (p .text) (take (x .to - x .from) (drop (x .from) f))) text) (cond y (set ends (p .ends) (endOf p x)) ends) (cond y (rowsWith p (x .row) rows) rows)
-field-wrote {d} {f} p x text ends rows h true q =
+    → Wrote w d f p text ends rows (cond y (behind p (x .next) (x .row) (endOf p x)) p) (cond y (sets text (p .text) (take (x .to - x .from) (drop (x .from) f))) text) (cond y (set ends (p .ends) (endOf p x)) ends) (cond y (rowsWith p (x .row) rows) rows)
+field-wrote {f = f} p x text ends rows h true q =
     let r = field-room p x (length f) (length text) (length ends) (length rows) q in
     let order = r .order in
     let inside = r .inside in
-    let w = length-take-le (x .to - x .from) (drop (x .from) f) (rw (length-drop (x .from) f) (omega arith)) in
-    ends-wrote text ends rows (h order) (r .end) (omega (arith, w)) (omega (arith, w, r .text-room))
+    let n = length-take-le (x .to - x .from) (drop (x .from) f) (rw (length-drop (x .from) f) (omega arith)) in
+    ends-wrote text ends rows (h order) (r .end) (omega (arith, n)) (omega (arith, n, r .text-room))
 field-wrote p x text ends rows h false q = wrote-none
 
 pub field-put :
-    {d : Dialect} {f : Bytes} (p : Head) (x : Field) (text ends rows : List ℕ)
+    {w : Bool} {d : Dialect} {f : Bytes} (p : Head) (x : Field) (text ends rows : List ℕ)
     → (x .from ≤ x .to → Ends d f p (take (x .to - x .from) (drop (x .from) f)) (x .next) (x .row) (endOf p x))
     → {r : Head} {text′ ends′ rows′ : List ℕ}
     → let y = fieldFits p x (length f) (length text) (length ends) (length rows) in
     r ≡ cond y (behind p (x .next) (x .row) (endOf p x)) p → text′ ≡ cond y (sets text (p .text) (take (x .to - x .from) (drop (x .from) f))) text
-    → ends′ ≡ cond y (set ends (p .ends) (endOf p x)) ends → rows′ ≡ cond y (rowsWith p (x .row) rows) rows → Wrote d f p text ends rows r text′ ends′ rows′
+    → ends′ ≡ cond y (set ends (p .ends) (endOf p x)) ends → rows′ ≡ cond y (rowsWith p (x .row) rows) rows → Wrote w d f p text ends rows r text′ ends′ rows′
 field-put p x text ends rows h e₁ e₂ e₃ e₄ = rw (e₁, e₂, e₃, e₄) (field-wrote p x text ends rows h _ refl)
 
 pub end-wrote :
-    {d : Dialect} {f : Bytes} (p : Head) (next : ℕ) (row : Bool) (text ends rows : List ℕ) → Ends d f p [] next row (p .text)
+    {w : Bool} {d : Dialect} {f : Bytes} (p : Head) (next : ℕ) (row : Bool) (text ends rows : List ℕ) → Ends d f p [] next row (p .text)
     → (y : Bool) → endFits p (p .text) row (length ends) (length rows) ≡ y
-    → Wrote d f p text ends rows (cond y (behind p next row (p .text)) p) text (cond y (set ends (p .ends) (p .text)) ends) (cond y (rowsWith p row rows) rows)
+    → Wrote w d f p text ends rows (cond y (behind p next row (p .text)) p) text (cond y (set ends (p .ends) (p .text)) ends) (cond y (rowsWith p row rows) rows)
 end-wrote p next row text ends rows h true q = ends-wrote text ends rows h (end-room p (p .text) row (length ends) (length rows) q) (omega arith) (omega arith)
 end-wrote p next row text ends rows h false q = wrote-none
 
 pub end-put :
-    {d : Dialect} {f : Bytes} (p : Head) (next : ℕ) (row : Bool) (text ends rows : List ℕ) → Ends d f p [] next row (p .text)
+    {w : Bool} {d : Dialect} {f : Bytes} (p : Head) (next : ℕ) (row : Bool) (text ends rows : List ℕ) → Ends d f p [] next row (p .text)
     → {r : Head} {ends′ rows′ : List ℕ}
     → let y = endFits p (p .text) row (length ends) (length rows) in
     r ≡ cond y (behind p next row (p .text)) p → ends′ ≡ cond y (set ends (p .ends) (p .text)) ends → rows′ ≡ cond y (rowsWith p row rows) rows
-    → Wrote d f p text ends rows r text ends′ rows′
+    → Wrote w d f p text ends rows r text ends′ rows′
 end-put p next row text ends rows h e₁ e₂ e₃ = rw (e₁, e₂, e₃) (end-wrote p next row text ends rows h _ refl)
 
 -- where there is room for what is ahead, an end fits
 pub end-fits :
-    {d : Dialect} {f : Bytes} {p : Head} {next : ℕ} {row : Bool} {text ends rows : List ℕ} → Ends d f p [] next row (p .text)
-    → Ample d f p text ends rows → endFits p (p .text) row (length ends) (length rows) ≡ true
-end-fits {d} {f} {p} {next} {row} {text} {ends} {rows} h m =
-    let e = ap length (h .ends-are) in
+    {w : Bool} {d : Dialect} {f : Bytes} {p : Head} {next : ℕ} {row : Bool} {text ends rows : List ℕ} → Ends d f p [] next row (p .text)
+    → Ample w d f p text ends rows → endFits p (p .text) row (length ends) (length rows) ≡ true
+end-fits {w} {d} {f} {p} {next} {row} {text} {ends} {rows} h m =
+    let e = ap length (h .ends-are w) in
     let small = m .text-small in
     room-end p (p .text) row (length ends) (length rows)
     (record {
       ends-room = omega (arith, e, m .ends-room);
       small = omega arith;
       few = omega (arith, e, m .ends-small);
-      rows-room = λ q. omega (arith, ap length (rw q at (h .rows-are)), m .rows-room);
+      rows-room = λ q. omega (arith, ap length (rw q at (h .rows-are w)), m .rows-room);
     })
 
 -- the byte at a place does a
@@ -123,36 +123,36 @@ Does d f p a = stepOf (d .allows lf) (formOf (p .form)) (classOf d (getD f (p .a
 abbrev textIf : Dialect → Bytes → Head → Act → Bytes
 textIf d f p a = textBy a (p .held) (getD f (p .at) 0) (textLeft d (drop (p .at + 1) f))
 
-abbrev endsIf : Dialect → Bytes → Head → Act → List ℕ
-endsIf d f p a = endsBy a (p .held) (p .text) (endsLeft d (drop (p .at + 1) f))
+abbrev endsIf : Bool → Dialect → Bytes → Head → Act → List ℕ
+endsIf w d f p a = endsBy a (p .held) (p .text) (endsLeft w d (drop (p .at + 1) f))
 
-abbrev rowsIf : Dialect → Bytes → Head → Act → List ℕ
-rowsIf d f p a = rowsBy a (p .ends) (rowsLeft d (drop (p .at + 1) f))
+abbrev rowsIf : Bool → Dialect → Bytes → Head → Act → List ℕ
+rowsIf w d f p a = rowsBy a (p .ends) (rowsLeft w d (drop (p .at + 1) f))
 
 module _ (d : Dialect) (f : Bytes) (p : Head) (h : p .at < length f) where
   module _ (a : Act) (e : Does d f p a) where
     text-by : textAhead d f p ≡ textIf d f p a
     text-by = rw (add-one, drop-cons f (p .at) 0 h, text-byte d, e)
 
-    ends-by : endsAhead d f p ≡ endsIf d f p a
-    ends-by = rw (add-one, drop-cons f (p .at) 0 h, ends-byte d, e)
+    ends-by : (w : Bool) → endsAhead w d f p ≡ endsIf w d f p a
+    ends-by w = rw (add-one, drop-cons f (p .at) 0 h, ends-byte w d, e)
 
-    rows-by : rowsAhead d f p ≡ rowsIf d f p a
-    rows-by = rw (add-one, drop-cons f (p .at) 0 h, rows-byte d, e)
+    rows-by : (w : Bool) → rowsAhead w d f p ≡ rowsIf w d f p a
+    rows-by w = rw (add-one, drop-cons f (p .at) 0 h, rows-byte w d, e)
 
     -- a place one byte further on, with nothing written
     pub goes :
-        {q : Head} {text ends rows : List ℕ} → q .at ≡ p .at + 1 → q .held ≤ p .held + 1 → q .text ≡ p .text → q .ends ≡ p .ends → q .rows ≡ p .rows
-        → textIf d f p a ≡ textAhead d f q → endsIf d f p a ≡ endsAhead d f q → rowsIf d f p a ≡ rowsAhead d f q
-        → Wrote d f p text ends rows q text ends rows
-    goes {q} n i e₁ e₂ e₃ t u v =
+        {w : Bool} {q : Head} {text ends rows : List ℕ} → q .at ≡ p .at + 1 → q .held ≤ p .held + 1 → q .text ≡ p .text → q .ends ≡ p .ends → q .rows ≡ p .rows
+        → textIf d f p a ≡ textAhead d f q → endsIf w d f p a ≡ endsAhead w d f q → rowsIf w d f p a ≡ rowsAhead w d f q
+        → Wrote w d f p text ends rows q text ends rows
+    goes {w} {q} n i e₁ e₂ e₃ t u v =
         record {
           on = omega arith;
           inside = λ l. omega arith;
           held = omega arith;
           text-on = rw e₁ (grown-none (text-by ∙ t));
-          ends-on = rw e₂ (grown-none (ends-by ∙ u));
-          rows-on = rw e₃ (grown-none (rows-by ∙ v));
+          ends-on = rw e₂ (grown-none (ends-by w ∙ u));
+          rows-on = rw e₃ (grown-none (rows-by w ∙ v));
         }
 
     -- where the byte ends a field: the next begins behind it
@@ -161,17 +161,17 @@ module _ (d : Dialect) (f : Bytes) (p : Head) (h : p .at < length f) where
       ends-here = by row x
         where
           by : (y : Bool) → a ≡ go k (cond y record-end field-end) → Ends d f p [] (p .at + 1) y (p .text)
-          by true z = record { further = omega arith; inside = omega arith; text-is = text-by ∙ rw (z, form-back start); ends-are = ends-by ∙ rw (z, form-back start); rows-are = rows-by ∙ rw (z, form-back start) }
-          by false z = record { further = omega arith; inside = omega arith; text-is = text-by ∙ rw (z, form-back start); ends-are = ends-by ∙ rw (z, form-back start); rows-are = rows-by ∙ rw (z, form-back start) }
+          by true z = record { further = omega arith; inside = omega arith; text-is = text-by ∙ rw (z, form-back start); ends-are = λ w. ends-by w ∙ rw (z, form-back start); rows-are = λ w. rows-by w ∙ rw (z, form-back start) }
+          by false z = record { further = omega arith; inside = omega arith; text-is = text-by ∙ rw (z, form-back start); ends-are = λ w. ends-by w ∙ rw (z, form-back start); rows-are = λ w. rows-by w ∙ rw (z, form-back start) }
 
   -- a byte of content behind the blanks held
   abbrev put-at : ℕ → Head
   put-at k = record { at = p .at + 1; form = k; held = 0; text = p .text + p .held + 1; ends = p .ends; rows = p .rows; begun = true }
 
   pub put-wrote :
-      (k : ℕ) → Does d f p (go (formOf k) put) → (text ends rows : List ℕ) (y : Bool) → ltb (p .text + p .held) (length text) ≡ y
-      → Wrote d f p text ends rows (cond y (put-at k) p) (cond y (set (sets text (p .text) (replicate (p .held) 0x20)) (p .text + p .held) (getD f (p .at) 0)) text) ends rows
-  put-wrote k e text ends rows true q =
+      {w : Bool} (k : ℕ) → Does d f p (go (formOf k) put) → (text ends rows : List ℕ) (y : Bool) → ltb (p .text + p .held) (length text) ≡ y
+      → Wrote w d f p text ends rows (cond y (put-at k) p) (cond y (set (sets text (p .text) (replicate (p .held) 0x20)) (p .text + p .held) (getD f (p .at) 0)) text) ends rows
+  put-wrote {w} k e text ends rows true q =
       let l : p .text + p .held < length text = ltb-true (p .text + p .held) (length text) q in
       let blanks : Bytes = replicate (p .held) 0x20 in
       record {
@@ -179,12 +179,12 @@ module _ (d : Dialect) (f : Bytes) (p : Head) (h : p .at < length f) where
         inside = λ i. omega arith;
         held = omega arith;
         text-on = grown-then (grown-list blanks (length-replicate (p .held) 0x20) (omega arith) (text-by _ e)) (grown-one (omega (arith, length-sets text (p .text) blanks)) refl);
-        ends-on = grown-none (ends-by _ e);
-        rows-on = grown-none (rows-by _ e);
+        ends-on = grown-none (ends-by _ e w);
+        rows-on = grown-none (rows-by _ e w);
       }
   put-wrote k e text ends rows false q = wrote-none
 
-  pub put-fits : (k : ℕ) {text ends rows : List ℕ} → Does d f p (go (formOf k) put) → Ample d f p text ends rows → ltb (p .text + p .held) (length text) ≡ true
+  pub put-fits : {w : Bool} (k : ℕ) {text ends rows : List ℕ} → Does d f p (go (formOf k) put) → Ample w d f p text ends rows → ltb (p .text + p .held) (length text) ≡ true
   put-fits k {text} e m =
       let blanks : Bytes = replicate (p .held) 0x20 in
       let all = ap length (text-by _ e) ∙ length-append blanks _ in
@@ -192,23 +192,23 @@ module _ (d : Dialect) (f : Bytes) (p : Head) (h : p .at < length f) where
 
   -- a blank that is held
   pub hold-wrote :
-      (k : ℕ) → Does d f p (go (formOf k) hold) → (text ends rows : List ℕ) (y : Bool)
-      → Wrote d f p text ends rows (cond y (record { at = p .at + 1; form = k; held = p .held + 1; text = p .text; ends = p .ends; rows = p .rows; begun = true }) p) text ends rows
+      {w : Bool} (k : ℕ) → Does d f p (go (formOf k) hold) → (text ends rows : List ℕ) (y : Bool)
+      → Wrote w d f p text ends rows (cond y (record { at = p .at + 1; form = k; held = p .held + 1; text = p .text; ends = p .ends; rows = p .rows; begun = true }) p) text ends rows
   hold-wrote k e text ends rows true = goes _ e refl (omega arith) refl refl refl refl refl refl
   hold-wrote k e text ends rows false = wrote-none
 
   -- behind a refusal nothing is ahead
   pub stops :
-      {n : ℕ} {text ends rows : List ℕ} → Does d f p (refuse n)
-      → Wrote d f p text ends rows (record { at = length f; form = p .form; held = p .held; text = p .text; ends = p .ends; rows = p .rows; begun = false }) text ends rows
-  stops e =
+      {w : Bool} {n : ℕ} {text ends rows : List ℕ} → Does d f p (refuse n)
+      → Wrote w d f p text ends rows (record { at = length f; form = p .form; held = p .held; text = p .text; ends = p .ends; rows = p .rows; begun = false }) text ends rows
+  stops {w} e =
       record {
         on = omega arith;
         inside = λ l. omega arith;
         held = omega arith;
         text-on = grown-none (text-by _ e ∙ rw (drop-length, text-none d));
-        ends-on = grown-none (ends-by _ e ∙ rw (drop-length, ends-none d));
-        rows-on = grown-none (rows-by _ e ∙ rw (drop-length, rows-none d));
+        ends-on = grown-none (ends-by _ e w ∙ rw (drop-length, ends-none w d));
+        rows-on = grown-none (rows-by _ e w ∙ rw (drop-length, rows-none w d));
       }
 
 pub place-is : (l at count : ℕ) → at < l → ltb count (l - at) ≡ ltb (at + count) l

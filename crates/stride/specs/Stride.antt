@@ -15,22 +15,22 @@ use Rattle.fill.specs.declared.Field.{Field}
 use Rattle.fill.specs.Put.{behind, endOf}
 use Rattle.fill.specs.Walk.{textAhead, endsAhead, rowsAhead}
 
--- room for all that is ahead, as numbers of 32 bits; and no more blanks held than bytes passed
-pub record Ample (d : Dialect) (f : Bytes) (p : Head) (text ends rows : List ℕ) : Type 0 where
+-- room for all that is ahead, as numbers of 32 bits; and 64 bits can number the blanks held, whatever bytes are ahead
+pub record Ample (w : Bool) (d : Dialect) (f : Bytes) (p : Head) (text ends rows : List ℕ) : Type 0 where
   pub text-room : p .text + length (textAhead d f p) ≤ length text
-  pub ends-room : p .ends + length (endsAhead d f p) ≤ length ends
-  pub rows-room : p .rows + length (rowsAhead d f p) ≤ length rows
+  pub ends-room : p .ends + length (endsAhead w d f p) ≤ length ends
+  pub rows-room : p .rows + length (rowsAhead w d f p) ≤ length rows
   pub text-small : p .text + length (textAhead d f p) ≤ largest32
-  pub ends-small : p .ends + length (endsAhead d f p) ≤ largest32
-  pub held : p .held ≤ p .at
+  pub ends-small : p .ends + length (endsAhead w d f p) ≤ largest32
+  pub held : p .held + length f ≤ p .at + 18446744073709551615
 
--- the field in work ends: behind its last w bytes of content its end is n, and the next field begins at a place
-pub record Ends (d : Dialect) (f : Bytes) (p : Head) (w : Bytes) (next : ℕ) (row : Bool) (n : ℕ) : Type 0 where
+-- the field in work ends, whether or not the file ends with f: behind its last c bytes of content its end is n, and the next field begins at a place
+pub record Ends (d : Dialect) (f : Bytes) (p : Head) (c : Bytes) (next : ℕ) (row : Bool) (n : ℕ) : Type 0 where
   pub further : p .at < next
   pub inside : next ≤ length f
-  pub text-is : textAhead d f p ≡ w ++ textAhead d f (behind p next row n)
-  pub ends-are : endsAhead d f p ≡ n ∷ endsAhead d f (behind p next row n)
-  pub rows-are : rowsAhead d f p ≡ cond row ((p .ends + 1) ∷ []) [] ++ rowsAhead d f (behind p next row n)
+  pub text-is : textAhead d f p ≡ c ++ textAhead d f (behind p next row n)
+  pub ends-are : (w : Bool) → endsAhead w d f p ≡ n ∷ endsAhead w d f (behind p next row n)
+  pub rows-are : (w : Bool) → rowsAhead w d f p ≡ cond row ((p .ends + 1) ∷ []) [] ++ rowsAhead w d f (behind p next row n)
 
 -- at the start of a field that is plain text up to q, where a byte stands
 pub record Plain (d : Dialect) (f : Bytes) (p : Head) (q : ℕ) : Type 0 where

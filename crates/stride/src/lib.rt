@@ -3,7 +3,7 @@
 // Nothing is judged here. fill's specs/Fill.antt says what there is to write, as functions of the bytes
 // ahead, and its specs/Walk.antt what it means to have written it from one place to another.
 ghost use mathlib.Core.Path.{_≡_};
-ghost use mathlib.Core.Bool.{true, false, cond};
+ghost use mathlib.Core.Bool.{Bool, true, false, cond};
 ghost use Prim.Native.Nat.{_+_, _<_, _≤_};
 ghost use lib.Dec.{ltb};
 ghost use lib.ListN.{length, getD, set, replicate};
@@ -26,8 +26,8 @@ pub fn take_byte(
     ends: &mut [u32],
     rows: &mut [u32],
 ) -> Head
-    ensures { λ r. ⌜ Wrote (dialect delimiter leniencies) (now (file .entry)) p (now (text .entry)) (now (ends .entry)) (now (rows .entry)) r (now (text .exit)) (now (ends .exit)) (now (rows .exit)) ⌝ }
-    ensures { λ r. ⌜ (Ample (dialect delimiter leniencies) (now (file .entry)) p (now (text .entry)) (now (ends .entry)) (now (rows .entry)) → p .at < length (now (file .entry)) → p .at < r .at) ⌝ }
+    ensures { λ r. ⌜ ((w : Bool) → Wrote w (dialect delimiter leniencies) (now (file .entry)) p (now (text .entry)) (now (ends .entry)) (now (rows .entry)) r (now (text .exit)) (now (ends .exit)) (now (rows .exit))) ⌝ }
+    ensures { λ r. ⌜ ((w : Bool) → Ample w (dialect delimiter leniencies) (now (file .entry)) p (now (text .entry)) (now (ends .entry)) (now (rows .entry)) → p .at < length (now (file .entry)) → p .at < r .at) ⌝ }
 {
     let at = p.at;
     if file.len() <= at {

@@ -33,12 +33,12 @@ pub record Fields (d : Dialect) (f : Bytes) (p : Head) (text₀ ends₀ rows₀ 
   pub within : i ≤ length f
   pub from : h .at ≤ i
   pub so-far : i - h .at ≤ run (isPlain d) (drop (h .at) f)
-  pub wrote : Wrote d f p text₀ ends₀ rows₀ h text ends rows
+  pub wrote : (w : Bool) → Wrote w d f p text₀ ends₀ rows₀ h text ends rows
 
 pub fields-start :
     {d : Dialect} {f : Bytes} {p : Head} {text ends rows : List ℕ} → p .at ≤ length f → p .form ≡ formNumber start → p .held ≡ 0
     → Fields d f p text ends rows (p .at) p text ends rows
-fields-start l e₁ e₂ = record { form = e₁; held = e₂; within = l; from = omega arith; so-far = omega arith; wrote = wrote-none }
+fields-start l e₁ e₂ = record { form = e₁; held = e₂; within = l; from = omega arith; so-far = omega arith; wrote = λ w. wrote-none }
 
 -- the block from i on ends at e
 pub block-at :
@@ -83,19 +83,19 @@ module _
 
     -- the same, from here on
     pub here : Fields d f h text ends rows i h text ends rows
-    here = record { form = g .form; held = g .held; within = g .within; from = g .from; so-far = g .so-far; wrote = wrote-none }
+    here = record { form = g .form; held = g .held; within = g .within; from = g .from; so-far = g .so-far; wrote = λ w. wrote-none }
 
 -- one walk behind another
 pub joined :
     {d : Dialect} {f : Bytes} {p h h′ : Head} {text₀ ends₀ rows₀ text ends rows text′ ends′ rows′ : List ℕ} {i i′ : ℕ}
     → Fields d f p text₀ ends₀ rows₀ i h text ends rows → Fields d f h text ends rows i′ h′ text′ ends′ rows′
     → Fields d f p text₀ ends₀ rows₀ i′ h′ text′ ends′ rows′
-joined g k = record { form = k .form; held = k .held; within = k .within; from = k .from; so-far = k .so-far; wrote = wrote-then (g .wrote) (k .wrote) }
+joined g k = record { form = k .form; held = k .held; within = k .within; from = k .from; so-far = k .so-far; wrote = λ w. wrote-then (g .wrote w) (k .wrote w) }
 
 -- behind a field: at the start of the next
 pub fields-next :
     {d : Dialect} {f : Bytes} {p h : Head} {text₀ ends₀ rows₀ text ends rows : List ℕ} {i : ℕ}
-    → Wrote d f p text₀ ends₀ rows₀ h text ends rows → h .at ≡ i → i ≤ length f → h .form ≡ formNumber start → h .held ≡ 0 → Fields d f p text₀ ends₀ rows₀ i h text ends rows
+    → ((w : Bool) → Wrote w d f p text₀ ends₀ rows₀ h text ends rows) → h .at ≡ i → i ≤ length f → h .form ≡ formNumber start → h .held ≡ 0 → Fields d f p text₀ ends₀ rows₀ i h text ends rows
 fields-next w e l e₁ e₂ = record { form = e₁; held = e₂; within = l; from = omega arith; so-far = omega arith; wrote = w }
 
 pub start-again :

@@ -3,7 +3,7 @@
 // Nothing is judged here. fill's specs/Fill.antt says what there is to write, as functions of the bytes
 // ahead, and its specs/Walk.antt what it means to have written it from one place to another.
 ghost use mathlib.Core.Path.{_≡_};
-ghost use mathlib.Core.Bool.{true};
+ghost use mathlib.Core.Bool.{Bool, true};
 ghost use Prim.Native.Nat.{ℕ, _≤_};
 ghost use mathlib.Core.List.{List};
 ghost use lib.ListN.{length};
@@ -25,8 +25,8 @@ pub fn walked(
     ends: &mut [u32],
     rows: &mut [u32],
 ) -> Head
-    ensures { λ r. ⌜ Wrote (dialect delimiter leniencies) (now (file .entry)) p (now (text .entry)) (now (ends .entry)) (now (rows .entry)) r (now (text .exit)) (now (ends .exit)) (now (rows .exit)) ⌝ }
-    ensures { λ r. ⌜ (Ample (dialect delimiter leniencies) (now (file .entry)) p (now (text .entry)) (now (ends .entry)) (now (rows .entry)) → length (now (file .entry)) ≤ r .at) ⌝ }
+    ensures { λ r. ⌜ ((w : Bool) → Wrote w (dialect delimiter leniencies) (now (file .entry)) p (now (text .entry)) (now (ends .entry)) (now (rows .entry)) r (now (text .exit)) (now (ends .exit)) (now (rows .exit))) ⌝ }
+    ensures { λ r. ⌜ ((w : Bool) → Ample w (dialect delimiter leniencies) (now (file .entry)) p (now (text .entry)) (now (ends .entry)) (now (rows .entry)) → length (now (file .entry)) ≤ r .at) ⌝ }
 {
     let stops = runs::stop_table(delimiter, leniencies);
     let mut h = p;
@@ -62,7 +62,7 @@ fn pass_fields(
 ) -> Head
     requires { ⌜ Stops (now stops) (dialect delimiter leniencies) ⌝ }
     requires { ⌜ p .at ≤ length (now file) ⌝ }
-    ensures { λ r. ⌜ Wrote (dialect delimiter leniencies) (now (file .entry)) p (now (text .entry)) (now (ends .entry)) (now (rows .entry)) r (now (text .exit)) (now (ends .exit)) (now (rows .exit)) ⌝ }
+    ensures { λ r. ⌜ ((w : Bool) → Wrote w (dialect delimiter leniencies) (now (file .entry)) p (now (text .entry)) (now (ends .entry)) (now (rows .entry)) r (now (text .exit)) (now (ends .exit)) (now (rows .exit))) ⌝ }
 {
     if !begins(p, delimiter) {
         return pass_content(file, delimiter, p, text);
@@ -91,7 +91,7 @@ fn pass_fields(
 
 // Passes what stands between quotes, where a quote is no delimiter.
 fn pass_content(file: &[u8], delimiter: u8, p: Head, text: &mut [u8]) -> Head
-    ensures { λ r. ⌜ ((d : Dialect) → d .delimiterByte ≡ delimiter → (ends rows : List ℕ) → Wrote d (now (file .entry)) p (now (text .entry)) ends rows r (now (text .exit)) ends rows) ⌝ }
+    ensures { λ r. ⌜ ((w : Bool) (d : Dialect) → d .delimiterByte ≡ delimiter → (ends rows : List ℕ) → Wrote w d (now (file .entry)) p (now (text .entry)) ends rows r (now (text .exit)) ends rows) ⌝ }
 {
     if delimiter == 0x22 {
         return p;

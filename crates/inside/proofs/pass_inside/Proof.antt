@@ -23,7 +23,7 @@ is-inside-requires : tie.Need-is-inside-requires Inv-loop μ-loop
 is-inside-requires c κs = tt
 
 returns : tie.Need-returns Inv-loop μ-loop
-returns c d o ends rows = wrote-none
+returns c w d o ends rows = wrote-none
 
 loop-holds : tie.Need-loop-holds Inv-loop μ-loop
 loop-holds c = let s = c .before .before .before .before in let a = s .args in let b = c .before .is-inside .ensures (not-false _ (c .if1 .left)) in inside-start (a .file .now) (a .p .at) (a .p .text) (a .text .now) (omega (arith, b .2))
@@ -38,13 +38,13 @@ same-length : tie.Need-same-length Inv-loop μ-loop
 same-length c = let k = more-of (c .before .before) in inside-size (inside-then (k .before .before .before .loop .inv) (k .inside-more .ensures))
 
 returns-2 : tie.Need-returns-2 Inv-loop μ-loop
-returns-2 c d o ends rows =
+returns-2 c w d o ends rows =
     let l = more-of (c .before .before) .before .before .before in
     let e = l .before in
     let s = e .before .before .before .before in
     let a = s .args in
     let b = e .before .is-inside .ensures (not-false _ (e .if1 .left)) in
-    rw (c .quoted-at .ensures) (inside-wrote d (a .file .now) (a .p) (a .text .now) ends rows (b .2) (b .0) (b .1) o (inside-then (l .loop .inv) (more-of (c .before .before) .inside-more .ensures)))
+    rw (c .quoted-at .ensures) (inside-wrote w d (a .file .now) (a .p) (a .text .now) ends rows (b .2) (b .0) (b .1) o (inside-then (l .loop .inv) (more-of (c .before .before) .inside-more .ensures)))
 
 loop-less : tie.Need-loop-less Inv-loop μ-loop
 loop-less c =
@@ -61,13 +61,13 @@ same-length-2 : tie.Need-same-length-2 Inv-loop μ-loop
 same-length-2 c = inside-size (c .before .before .loop .inv)
 
 returns-3 : tie.Need-returns-3 Inv-loop μ-loop
-returns-3 c d o ends rows =
+returns-3 c w d o ends rows =
     let l = c .before .before in
     let e = l .before in
     let s = e .before .before .before .before in
     let a = s .args in
     let b = e .before .is-inside .ensures (not-false _ (e .if1 .left)) in
-    rw (c .quoted-at2 .ensures) (inside-wrote d (a .file .now) (a .p) (a .text .now) ends rows (b .2) (b .0) (b .1) o (l .loop .inv))
+    rw (c .quoted-at2 .ensures) (inside-wrote w d (a .file .now) (a .p) (a .text .now) ends rows (b .2) (b .0) (b .1) o (l .loop .inv))
 
 pub pass-inside-spec : {M : Type 1} → statement M
 pass-inside-spec =

@@ -1,5 +1,7 @@
 -- `reader::write_table` meets its contract.
+use native.Mathlib.Omega.{arith}
 use mathlib.Core.Path.{_∙_}
+use mathlib.Core.Bool.{true}
 use borrow.Author.Needs.{needs}
 use Rattle.format.specs.Dialect.{dialect}
 use Rattle.format.proofs.Filling.{push}
@@ -18,8 +20,8 @@ walk-of c = c .before .before .before .before .before .before
 -- there is room for all
 ample :
     (w : tie.After-walked) → let a = start w .args in
-    Ample (dialect (a .delimiter) (a .leniencies)) (a .file .now) first (a .text .now) (a .ends .now) (a .rows .now)
-ample w = let h = start w .pre in ample-first (h .0 .0) (h .0 .1) (h .1 .0) (h .1 .1 .0) (h .1 .1 .1)
+    Ample true (dialect (a .delimiter) (a .leniencies)) (a .file .now) first (a .text .now) (a .ends .now) (a .rows .now)
+ample w = let h = start w .pre in ample-first (omega (arith, start w .good)) (h .0 .0) (h .0 .1) (h .1 .0) (h .1 .1 .0) (h .1 .1 .1)
 
 walked-requires : tie.Need-walked-requires
 walked-requires c κs = search needs
@@ -42,8 +44,8 @@ returns c =
     let t = e .before .before .before in
     let w = walk-of (t .before) in
     let m = ample w in
-    let g = w .walked .ensures .0 in
-    let h = w .walked .ensures .1 m in
+    let g = w .walked .ensures .0 true in
+    let h = w .walked .ensures .1 true m in
     let b = t .if1 .taken in
     let f = last-fits m g h b in
     (last-text m g h b .fills, ((rw f at (e .put-end .ensures .1 .0)) ∙ push _ (last-ends m g h b) .fills, (rw f at (e .put-end .ensures .1 .1)) ∙ push _ (last-rows m g h b) .fills))
@@ -61,8 +63,8 @@ returns-2 : tie.Need-returns-2
 returns-2 c =
     let w = walk-of (c .before) in
     let m = ample w in
-    let g = w .walked .ensures .0 in
-    let h = w .walked .ensures .1 m in
+    let g = w .walked .ensures .0 true in
+    let h = w .walked .ensures .1 true m in
     let b = c .if1 .left in
     (last-text m g h b .fills, (last-ends m g h b .fills, last-rows m g h b .fills))
 

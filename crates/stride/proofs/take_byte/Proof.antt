@@ -31,7 +31,7 @@ does :
 does l e = sym (act-back _ _ _) ∙ ap actOf (sym (l .step .ensures) ∙ e)
 
 returns : tie.Need-returns
-returns c = (wrote-none, λ m n. absurd (omega (arith, c .if1 .taken)))
+returns c = (λ w. wrote-none, λ w m n. absurd (omega (arith, c .if1 .taken)))
 
 shared-slice-read-b : tie.Need-shared-slice-read-b
 shared-slice-read-b c = search needs
@@ -92,14 +92,14 @@ returns-2 c =
     let l = c .before .before .before in
     let a = start l .args in
     rw (c .stopped .ensures)
-    (stops (dialect (a .delimiter) (a .leniencies)) (a .file .now) (a .p) (inside l) (does l (c .before .enum-told .given .1)), λ m n. inside l)
+    (λ w. stops (dialect (a .delimiter) (a .leniencies)) (a .file .now) (a .p) (inside l) (does l (c .before .enum-told .given .1)), λ w m n. inside l)
 
 returns-3 : tie.Need-returns-3
 returns-3 c =
     let l = c .before .before .before .before in
     let a = start l .args in
     rw (c .moved .ensures)
-    (goes (dialect (a .delimiter) (a .leniencies)) (a .file .now) (a .p) (inside l) _ (does l (c .before .before .s .given .1)) refl (omega arith) refl refl refl refl refl refl, λ m n. omega arith)
+    (λ w. goes (dialect (a .delimiter) (a .leniencies)) (a .file .now) (a .p) (inside l) _ (does l (c .before .before .s .given .1)) refl (omega arith) refl refl refl refl refl refl, λ w m n. omega arith)
 
 same-length : tie.Need-same-length
 same-length c = search needs
@@ -112,7 +112,7 @@ returns-4 c =
     let d = dialect (a .delimiter) (a .leniencies) in
     let e = does l (k .before .before .before .s2 .given .1) in
     rw (k .put-byte .ensures .0, k .put-byte .ensures .1)
-    (put-wrote d (a .file .now) (a .p) (inside l) _ e (a .text .now) (a .ends .now) (a .rows .now) _ refl, λ m n. rw (put-fits d (a .file .now) (a .p) (inside l) _ e m) (omega arith))
+    (λ w. put-wrote d (a .file .now) (a .p) (inside l) _ e (a .text .now) (a .ends .now) (a .rows .now) _ refl, λ w m n. rw (put-fits d (a .file .now) (a .p) (inside l) _ e m) (omega arith))
 
 returns-5 : tie.Need-returns-5
 returns-5 c =
@@ -120,14 +120,14 @@ returns-5 c =
     let a = start l .args in
     let e = does l (c .before .before .s3 .given .1) in
     rw (c .hold .ensures)
-    (hold-wrote (dialect (a .delimiter) (a .leniencies)) (a .file .now) (a .p) (inside l) _ e (a .text .now) (a .ends .now) (a .rows .now) (ltb (a .p .held) 18446744073709551615), λ m n. rw (lt-ltb (a .p .held) 18446744073709551615 (omega (arith, m .held, inside l, start l .good))) (omega arith))
+    (λ w. hold-wrote (dialect (a .delimiter) (a .leniencies)) (a .file .now) (a .p) (inside l) _ e (a .text .now) (a .ends .now) (a .rows .now) (ltb (a .p .held) 18446744073709551615), λ w m n. rw (lt-ltb (a .p .held) 18446744073709551615 (omega (arith, m .held, inside l))) (omega arith))
 
 returns-6 : tie.Need-returns-6
 returns-6 c =
     let l = c .before .before .before .before in
     let a = start l .args in
     rw (c .moved2 .ensures)
-    (goes (dialect (a .delimiter) (a .leniencies)) (a .file .now) (a .p) (inside l) _ (does l (c .before .before .s4 .given .1)) refl (omega arith) refl refl refl refl refl refl, λ m n. omega arith)
+    (λ w. goes (dialect (a .delimiter) (a .leniencies)) (a .file .now) (a .p) (inside l) _ (does l (c .before .before .s4 .given .1)) refl (omega arith) refl refl refl refl refl refl, λ w m n. omega arith)
 
 same-length-2 : tie.Need-same-length-2
 same-length-2 c = search needs
@@ -143,7 +143,7 @@ returns-7 c =
     let d = dialect (a .delimiter) (a .leniencies) in
     let x = ends-here d (a .file .now) (a .p) (inside l) _ (does l (k .before .before .before .enum-told2 .given .1)) {row = false} refl in
     let q = k .put-end .ensures in
-    (end-put (a .p) (a .p .at + 1) false (a .text .now) (a .ends .now) (a .rows .now) x (q .0) (q .1 .0) (q .1 .1), λ m n. end-moves (a .p) (a .p .at + 1) false (omega arith) (end-fits x m) (q .0))
+    (λ w. end-put (a .p) (a .p .at + 1) false (a .text .now) (a .ends .now) (a .rows .now) x (q .0) (q .1 .0) (q .1 .1), λ w m n. end-moves (a .p) (a .p .at + 1) false (omega arith) (end-fits x m) (q .0))
 
 same-length-4 : tie.Need-same-length-4
 same-length-4 c = search needs
@@ -159,7 +159,7 @@ returns-8 c =
     let d = dialect (a .delimiter) (a .leniencies) in
     let x = ends-here d (a .file .now) (a .p) (inside l) _ (does l (k .before .before .before .enum-told3 .given .1)) {row = true} refl in
     let q = k .put-end2 .ensures in
-    (end-put (a .p) (a .p .at + 1) true (a .text .now) (a .ends .now) (a .rows .now) x (q .0) (q .1 .0) (q .1 .1), λ m n. end-moves (a .p) (a .p .at + 1) true (omega arith) (end-fits x m) (q .0))
+    (λ w. end-put (a .p) (a .p .at + 1) true (a .text .now) (a .ends .now) (a .rows .now) x (q .0) (q .1 .0) (q .1 .1), λ w m n. end-moves (a .p) (a .p .at + 1) true (omega arith) (end-fits x m) (q .0))
 
 pub take-byte-spec : {M : Type 1} → statement M
 take-byte-spec =

@@ -1,6 +1,7 @@
 -- `walk::pass_fields` meets its contract.
 use Prim.Native.Nat.{ℕ, _+_, _-_, _≤_, _<_}
 use mathlib.Core.Path.{_≡_, refl, _∙_}
+use mathlib.Core.Bool.{true}
 use borrow.Author.Tests.{not-false}
 use native.Mathlib.Omega.{arith}
 use lib.ListN.{length, take, drop}
@@ -114,10 +115,10 @@ same-length : tie.Need-same-length Inv-loop2 μ-loop2 Inv-loop μ-loop
 same-length c = c .before .before .pass-content .kept .1 .1 .1 .0
 
 returns : tie.Need-returns Inv-loop2 μ-loop2 Inv-loop μ-loop
-returns c =
+returns c w =
     let k = c .before .before in
     let a = k .before .before .before .before .before .before .before .before .args in
-    k .pass-content .ensures (dialect (a .delimiter) (a .leniencies)) refl (a .ends .now) (a .rows .now)
+    k .pass-content .ensures w (dialect (a .delimiter) (a .leniencies)) refl (a .ends .now) (a .rows .now)
 
 loop-holds : tie.Need-loop-holds Inv-loop2 μ-loop2 Inv-loop μ-loop
 loop-holds c = let h = begun c in fields-start (c .before .before .before .before .before .before .pre .1) (h .0) (h .1)
@@ -148,22 +149,21 @@ put-field-requires : tie.Need-put-field-requires Inv-loop2 μ-loop2 Inv-loop μ-
 put-field-requires c κs = tt
 
 same-length-2 : tie.Need-same-length-2 Inv-loop2 μ-loop2 Inv-loop μ-loop
-same-length-2 c = let k = put-of (c .before) in k .put-field .kept .1 .1 .1 .0 ∙ wrote-sizes (whole (turn k .before) .wrote) .0
+same-length-2 c = let k = put-of (c .before) in k .put-field .kept .1 .1 .1 .0 ∙ wrote-sizes (whole (turn k .before) .wrote true) .0
 
 same-length-3 : tie.Need-same-length-3 Inv-loop2 μ-loop2 Inv-loop μ-loop
-same-length-3 c = let k = put-of (c .before) in k .put-field .kept .1 .1 .1 .1 .0 ∙ wrote-sizes (whole (turn k .before) .wrote) .1
+same-length-3 c = let k = put-of (c .before) in k .put-field .kept .1 .1 .1 .1 .0 ∙ wrote-sizes (whole (turn k .before) .wrote true) .1
 
 same-length-4 : tie.Need-same-length-4 Inv-loop2 μ-loop2 Inv-loop μ-loop
-same-length-4 c = let k = put-of (c .before) in k .put-field .kept .1 .1 .1 .1 .1 .0 ∙ wrote-sizes (whole (turn k .before) .wrote) .2
+same-length-4 c = let k = put-of (c .before) in k .put-field .kept .1 .1 .1 .1 .1 .0 ∙ wrote-sizes (whole (turn k .before) .wrote true) .2
 
 returns-2 : tie.Need-returns-2 Inv-loop2 μ-loop2 Inv-loop μ-loop
-returns-2 c =
+returns-2 c w =
     let k = put-of (c .before) in
     let t = turn k in
     let l = t .before .loop2 in
     let e = k .put-field .ensures in
-    let w = field-put (l .h) (field-of k .field-at .result) (l .text) (l .ends) (l .rows) (field-ends k) (e .0) (e .1 .0) (e .1 .1 .0) (e .1 .1 .1) in
-    wrote-then (whole (t .before) .wrote) w
+    wrote-then (whole (t .before) .wrote w) (field-put (l .h) (field-of k .field-at .result) (l .text) (l .ends) (l .rows) (field-ends k) (e .0) (e .1 .0) (e .1 .1 .0) (e .1 .1 .1))
 
 cast-shifted : tie.Need-cast-shifted Inv-loop2 μ-loop2 Inv-loop μ-loop
 cast-shifted c = omega (arith, stop (turn (put-of (c .before))) .0)
@@ -186,7 +186,6 @@ loop2-again c =
     let t = turn k in
     let l = t .before .loop2 in
     let e = k .put-field .ensures in
-    let w = field-put (l .h) (field-of k .field-at .result) (l .text) (l .ends) (l .rows) (field-ends k) (e .0) (e .1 .0) (e .1 .1 .0) (e .1 .1 .1) in
     let v = l .inv in
     let x = field-of k .field-at .result in
     let on = further (c .before) in
@@ -194,7 +193,7 @@ loop2-again c =
     let y = fieldFits (l .h) x (length file) (length (l .text)) (length (l .ends)) (length (l .rows)) in
     let z = start-again y (l .h) (x .next) (endOf (l .h) x) (x .row) (e .0) (v .0 .form) (v .0 .held) in
     let end = t .before .before .before .block-end .result in (
-      fields-next (wrote-then (v .0 .wrote) w) (c .before .if2 .left) (ended (c .before) .inside) (z .0) (z .1),
+      fields-next (λ w. wrote-then (v .0 .wrote w) (field-put (l .h) x (l .text) (l .ends) (l .rows) (field-ends k) (e .0) (e .1 .0) (e .1 .1 .0) (e .1 .1 .1))) (c .before .if2 .left) (ended (c .before) .inside) (z .0) (z .1),
       c .shifted .ensures ∙ stop-on (base (outer (t .before))) (v .0) end (l .w) (v .1) (v .2) (trailingZeros 64 (l .w)) (x .next) (omega (arith, on)),
       v .2,
       omega (arith, v .3, on),
@@ -216,13 +215,13 @@ loop-again c =
     rw (c .later .ensures) (no-stop (base (outer l)) (whole l) (l .before .before .block-end .result) (l .loop2 .w) (v .1) (v .2) (c .before .loop2-test .left))
 
 same-length-5 : tie.Need-same-length-5 Inv-loop2 μ-loop2 Inv-loop μ-loop
-same-length-5 c = wrote-sizes (c .before .loop .inv .wrote) .0
+same-length-5 c = wrote-sizes (c .before .loop .inv .wrote true) .0
 
 same-length-6 : tie.Need-same-length-6 Inv-loop2 μ-loop2 Inv-loop μ-loop
-same-length-6 c = wrote-sizes (c .before .loop .inv .wrote) .1
+same-length-6 c = wrote-sizes (c .before .loop .inv .wrote true) .1
 
 same-length-7 : tie.Need-same-length-7 Inv-loop2 μ-loop2 Inv-loop μ-loop
-same-length-7 c = wrote-sizes (c .before .loop .inv .wrote) .2
+same-length-7 c = wrote-sizes (c .before .loop .inv .wrote true) .2
 
 returns-3 : tie.Need-returns-3 Inv-loop2 μ-loop2 Inv-loop μ-loop
 returns-3 c = c .before .loop .inv .wrote

@@ -1,6 +1,7 @@
 -- `walk::walked` meets its contract. The loop's invariant: what lies between where the walk began and where it is has been written.
 -- The measure is what is left of the file.
 use Prim.Native.Nat.{_-_, _<_}
+use mathlib.Core.Bool.{Bool, true}
 use native.Mathlib.Omega.{arith}
 use lib.ListN.{length}
 use Rattle.format.specs.Dialect.{dialect}
@@ -11,7 +12,7 @@ use Rattle.walk.proofs.walked.Statement.{statement}
 use Rattle.walk.proofs.walked.Tie as tie
 
 abbrev Inv-loop : tie.InvT-loop
-Inv-loop file delimiter leniencies text₀ ends₀ rows₀ stops h₀ text ends rows h = Wrote (dialect delimiter leniencies) file h₀ text₀ ends₀ rows₀ h text ends rows
+Inv-loop file delimiter leniencies text₀ ends₀ rows₀ stops h₀ text ends rows h = (w : Bool) → Wrote w (dialect delimiter leniencies) file h₀ text₀ ends₀ rows₀ h text ends rows
 
 abbrev μ-loop : tie.MeasureT-loop
 μ-loop file delimiter leniencies text₀ ends₀ rows₀ stops h₀ text ends rows h = length file - h .at
@@ -35,54 +36,54 @@ stop-table-requires : tie.Need-stop-table-requires Inv-loop μ-loop
 stop-table-requires c κs = tt
 
 loop-holds : tie.Need-loop-holds Inv-loop μ-loop
-loop-holds c = wrote-none
+loop-holds c w = wrote-none
 
 take-byte-requires : tie.Need-take-byte-requires Inv-loop μ-loop
 take-byte-requires c κs = tt
 
 same-length : tie.Need-same-length Inv-loop μ-loop
-same-length c = let k = took (c .before) in wrote-sizes (wrote-then (looped k .loop .inv) (k .take-byte .ensures .0)) .0
+same-length c = let k = took (c .before) in wrote-sizes (wrote-then (looped k .loop .inv true) (k .take-byte .ensures .0 true)) .0
 
 same-length-2 : tie.Need-same-length-2 Inv-loop μ-loop
-same-length-2 c = let k = took (c .before) in wrote-sizes (wrote-then (looped k .loop .inv) (k .take-byte .ensures .0)) .1
+same-length-2 c = let k = took (c .before) in wrote-sizes (wrote-then (looped k .loop .inv true) (k .take-byte .ensures .0 true)) .1
 
 same-length-3 : tie.Need-same-length-3 Inv-loop μ-loop
-same-length-3 c = let k = took (c .before) in wrote-sizes (wrote-then (looped k .loop .inv) (k .take-byte .ensures .0)) .2
+same-length-3 c = let k = took (c .before) in wrote-sizes (wrote-then (looped k .loop .inv true) (k .take-byte .ensures .0 true)) .2
 
 returns : tie.Need-returns Inv-loop μ-loop
 returns c =
     let k = took (c .before) in
-    (wrote-then (looped k .loop .inv) (k .take-byte .ensures .0), λ m. absurd (omega (arith, k .take-byte .ensures .1 (ample-on (looped k .loop .inv) m) (inside k), c .if2 .taken)))
+    (λ w. wrote-then (looped k .loop .inv w) (k .take-byte .ensures .0 w), λ w m. absurd (omega (arith, k .take-byte .ensures .1 w (ample-on (looped k .loop .inv w) m) (inside k), c .if2 .taken)))
 
 pass-fields-requires : tie.Need-pass-fields-requires Inv-loop μ-loop
 pass-fields-requires c κs =
     let k = took (c .before .before .before .before .before) in
-    (looped k .before .stop-table .ensures, k .take-byte .ensures .0 .inside (omega (arith, inside k)))
+    (looped k .before .stop-table .ensures, k .take-byte .ensures .0 true .inside (omega (arith, inside k)))
 
 loop-less : tie.Need-loop-less Inv-loop μ-loop
 loop-less c =
-    let w = c .before .before .before .before .before .before in
-    let e = w .before .before .before .before .before in
+    let f = c .before .before .before .before .before .before in
+    let e = f .before .before .before .before .before in
     let k = took (e .before) in
-    omega (arith, k .take-byte .ensures .0 .on, e .if2 .left, w .pass-fields .ensures .on, inside k)
+    omega (arith, k .take-byte .ensures .0 true .on, e .if2 .left, f .pass-fields .ensures true .on, inside k)
 
 loop-again : tie.Need-loop-again Inv-loop μ-loop
-loop-again c =
-    let w = c .before .before .before .before .before .before in
-    let k = took (w .before .before .before .before .before .before) in
-    wrote-then (wrote-then (looped k .loop .inv) (k .take-byte .ensures .0)) (w .pass-fields .ensures)
+loop-again c w =
+    let f = c .before .before .before .before .before .before in
+    let k = took (f .before .before .before .before .before .before) in
+    wrote-then (wrote-then (looped k .loop .inv w) (k .take-byte .ensures .0 w)) (f .pass-fields .ensures w)
 
 same-length-4 : tie.Need-same-length-4 Inv-loop μ-loop
-same-length-4 c = wrote-sizes (c .before .before .loop .inv) .0
+same-length-4 c = wrote-sizes (c .before .before .loop .inv true) .0
 
 same-length-5 : tie.Need-same-length-5 Inv-loop μ-loop
-same-length-5 c = wrote-sizes (c .before .before .loop .inv) .1
+same-length-5 c = wrote-sizes (c .before .before .loop .inv true) .1
 
 same-length-6 : tie.Need-same-length-6 Inv-loop μ-loop
-same-length-6 c = wrote-sizes (c .before .before .loop .inv) .2
+same-length-6 c = wrote-sizes (c .before .before .loop .inv true) .2
 
 returns-2 : tie.Need-returns-2 Inv-loop μ-loop
-returns-2 c = (c .before .before .loop .inv, λ m. c .if1 .left)
+returns-2 c = (c .before .before .loop .inv, λ w m. c .if1 .left)
 
 pub walked-spec : {M : Type 1} → statement M
 walked-spec =
