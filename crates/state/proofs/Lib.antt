@@ -1,4 +1,5 @@
 pub mod Between
+pub mod Byte
 pub mod Closing
 pub mod Going
 pub mod Jumps

@@ -96,21 +96,21 @@ module _ (b sum : ℕ) where
   unfolding isValid
   valid-other e = rw e
 
-  valid-yes : Valid b sum → isValid b sum ≡ true
+  pub valid-yes : Valid b sum → isValid b sum ≡ true
   valid-yes v = go (delimits b) refl (v .0)
     where
       go : (x : Bool) → delimits b ≡ x → T x → isValid b sum ≡ true
       go true e t = valid-sum e ∙ le-leb sum 15 (v .1)
       go false e t = absurd t
 
-  yes-valid : isValid b sum ≡ true → Valid b sum
+  pub yes-valid : isValid b sum ≡ true → Valid b sum
   yes-valid e = go (delimits b) refl
     where
       go : (x : Bool) → delimits b ≡ x → T x × (sum ≤ 15)
       go true q = (tt, leb-true sum 15 (sym (valid-sum q) ∙ e))
       go false q = absurd (true≢false (sym e ∙ valid-other q))
 
-  no-valid : (Valid b sum → ⊥) → isValid b sum ≡ false
+  pub no-valid : (Valid b sum → ⊥) → isValid b sum ≡ false
   no-valid h = go (isValid b sum) refl
     where
       go : (x : Bool) → isValid b sum ≡ x → x ≡ false

@@ -1,0 +1,10 @@
+pub mod Before
+pub mod Calls
+pub mod Close
+pub mod Ending
+pub mod Laws
+pub mod Lists
+pub mod Meaning
+pub mod Progress
+pub mod Refuse
+pub mod Step
