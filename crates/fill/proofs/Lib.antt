@@ -3,4 +3,5 @@ pub mod Copy
 pub mod Flow
 pub mod Grown
 pub mod Left
+pub mod Part
 pub mod Put

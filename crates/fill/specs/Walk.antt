@@ -2,7 +2,7 @@
 use Prim.Native.Nat.{ℕ, _+_, _-_, _≤_}
 use mathlib.Core.Path.{_≡_}
 use mathlib.Core.Bool.{Bool, true}
-use mathlib.Core.List.{List, _++_}
+use mathlib.Core.List.{List, [], _∷_, _++_}
 use lib.ListN.{length, drop}
 use lib.Seq.{sets}
 use Rattle.format.specs.Table.{Bytes}
@@ -56,3 +56,8 @@ pub record Inside (f : Bytes) (at₀ n₀ : ℕ) (text₀ : Bytes) (at n : ℕ) 
 -- the head there
 abbrev pub between : ℕ → ℕ → Head → Head
 between at n p = record { at = at; form = formNumber quoted; held = 0; text = n; ends = p .ends; rows = p .rows; begun = true }
+
+-- each entry of a list greater by m
+abbrev pub raised : ℕ → List ℕ → List ℕ
+raised m [] = []
+raised m (x ∷ l) = (x + m) ∷ raised m l

@@ -1,6 +1,8 @@
 pub mod Before
+pub mod Bytewise
 pub mod Calls
 pub mod Close
+pub mod Closing
 pub mod Ending
 pub mod Laws
 pub mod Lists

@@ -22,7 +22,8 @@ use Rattle.output.specs.declared.Stream.{Stream}
 use Rattle.output.specs.Out.{Out, nothing, then, outOf, CameOut, came-out}
 use Rattle.format.specs.SoFar.{so-far}
 use Rattle.output.specs.Stream.{shown, isOver, Room, Called, streamStarted, streamed, closed}
-use Rattle.output.specs.Promises.{Awaits, Stands, no-dialect, going, refused, declined, accepted, Started, Fed, Closed}
+use Rattle.output.specs.declared.Streamed.{Streamed}
+use Rattle.output.specs.Promises.{Into, roomOf, Awaits, Stands, no-dialect, going, refused, declined, accepted, Started, Fed, Closed}
 use Rattle.steps.proofs.Forms.{at-begun, heldIn}
 use Rattle.output.proofs.Step.{Standing, standing, Clear, clear, then-nothing, stand-byte, not-shown}
 use Rattle.steps.proofs.One.{one-so-far}
@@ -88,27 +89,49 @@ stands-inv {s} (accepted p c h o) = inv-over (closed-over s c) (λ g. accepted p
 pub so-started : {b sum : ℕ} {s : Stream} → s ≡ streamStarted b sum → Started b sum s
 so-started {b} {sum} q = record { result = q; stands = λ g. subst (Stands b sum [] g nothing) (sym q) (inv-stands (start-inv b sum g)) }
 
-pub so-fed : {s : Stream} {piece : Bytes} {r : Room} {c : Called} → c ≡ streamed s piece r → Fed s piece r c
-so-fed {s} {piece} {r} q =
+pub so-fed :
+    {s : Stream} {piece text : Bytes} {ends rows : List ℕ} {r : Streamed} {text′ : Bytes} {ends′ rows′ : List ℕ}
+    → Into (streamed s piece (roomOf text ends rows)) text ends rows r text′ ends′ rows′ → Fed s piece text ends rows r text′ ends′ rows′
+so-fed {s} {piece} {text} {ends} {rows} q =
     record {
-      result = q;
-      stands = λ b sum f g o h.
-          subst (λ (c : Called). Stands b sum (f ++ take (c .taken) piece) (drop (c .taken) piece ++ g) (then o (c .out)) (c .state)) (sym q) (inv-stands (feed-inv piece g r (stands-inv h)));
+      into = q;
+      stands = λ b sum f g o h. rw (q .taken, q .state) (inv-stands (feed-inv piece g (roomOf text ends rows) (stands-inv h)));
     }
 
-pub so-closed : {s : Stream} {r : Room} {c : Called} → c ≡ closed s r → Closed s r c
-so-closed {s} {r} q =
-    record {
-      result = q;
-      stands = λ b sum f o h. subst (λ (c : Called). Stands b sum f [] (then o (c .out)) (c .state)) (sym q) (inv-stands (close-inv r (stands-inv h)));
-    }
+pub so-closed :
+    {s : Stream} {ends rows : List ℕ} {r : Streamed} {ends′ rows′ : List ℕ}
+    → Into (closed s (roomOf [] ends rows)) [] ends rows r [] ends′ rows′ → Closed s ends rows r ends′ rows′
+so-closed {s} {ends} {rows} q = record { into = q; stands = λ b sum f o h. rw (q .state) (inv-stands (close-inv (roomOf [] ends rows) (stands-inv h))) }
 
 -- Any two outcomes that a promise allows are equal.
 pub start-one : (b sum : ℕ) (s u : Stream) → Started b sum s → Started b sum u → s ≡ u
 start-one b sum s u p q = p .result ∙ sym (q .result)
 
-pub feed-one : (s : Stream) (piece : Bytes) (r : Room) (c e : Called) → Fed s piece r c → Fed s piece r e → c ≡ e
-feed-one s piece r c e p q = p .result ∙ sym (q .result)
+into-one :
+    {c : Called} {text text′ text″ : Bytes} {ends rows ends′ rows′ ends″ rows″ : List ℕ} {r u : Streamed}
+    → Into c text ends rows r text′ ends′ rows′ → Into c text ends rows u text″ ends″ rows″ → (r ≡ u) × (text′ ≡ text″) × (ends′ ≡ ends″) × (rows′ ≡ rows″)
+into-one p q = (
+  λ i. record {
+    state = (p .state ∙ sym (q .state)) i;
+    taken = (p .taken ∙ sym (q .taken)) i;
+    text = (p .text-count ∙ sym (q .text-count)) i;
+    ends = (p .ends-count ∙ sym (q .ends-count)) i;
+    rows = (p .rows-count ∙ sym (q .rows-count)) i;
+    short = (p .short ∙ sym (q .short)) i;
+    closed = (p .closed ∙ sym (q .closed)) i;
+    answer = (p .answer ∙ sym (q .answer)) i;
+  },
+  p .text-is ∙ sym (q .text-is),
+  p .ends-is ∙ sym (q .ends-is),
+  p .rows-is ∙ sym (q .rows-is),
+)
 
-pub close-one : (s : Stream) (r : Room) (c e : Called) → Closed s r c → Closed s r e → c ≡ e
-close-one s r c e p q = p .result ∙ sym (q .result)
+pub feed-one :
+    {s : Stream} {piece text text′ text″ : Bytes} {ends rows ends′ rows′ ends″ rows″ : List ℕ} {r u : Streamed}
+    → Fed s piece text ends rows r text′ ends′ rows′ → Fed s piece text ends rows u text″ ends″ rows″ → (r ≡ u) × (text′ ≡ text″) × (ends′ ≡ ends″) × (rows′ ≡ rows″)
+feed-one p q = into-one (p .into) (q .into)
+
+pub close-one :
+    {s : Stream} {ends rows ends′ rows′ ends″ rows″ : List ℕ} {r u : Streamed}
+    → Closed s ends rows r ends′ rows′ → Closed s ends rows u ends″ rows″ → (r ≡ u) × (ends′ ≡ ends″) × (rows′ ≡ rows″)
+close-one p q = let z = into-one (p .into) (q .into) in (z .0, z .2, z .3)

@@ -40,7 +40,7 @@ due-ends : (m : ℕ) (c : Check) (b : ℕ) (e : Check) → (length (due m c b e 
 unfolding due
 due-ends m c b e = (one-most (endsField e) (e .counts .text), one-most (endsRecord e) (e .counts .fields .0))
 
-blanks-held : (m : ℕ) (c e : Check) (k : ℕ) → 1 ≤ k → k ≤ blanksDue m c e → m + k ≤ c .field .held
+pub blanks-held : (m : ℕ) (c e : Check) (k : ℕ) → 1 ≤ k → k ≤ blanksDue m c e → m + k ≤ c .field .held
 unfolding blanksDue
 blanks-held m c e k i = by (putsText c e)
   where

@@ -131,24 +131,24 @@ pub then-nothing : (o : Out) → then o (record { text = []; ends = []; rows = [
 then-nothing o = λ i. record { text = append-nil (o .text) i; ends = append-nil (o .ends) i; rows = append-nil (o .rows) i }
 
 module _ (m : ℕ) (e : Check) (b : ℕ) (r : Check) where
-  due-quiet : putsText e r ≡ false → endsField r ≡ false → due m e b r ≡ record { text = []; ends = []; rows = [] }
+  pub due-quiet : putsText e r ≡ false → endsField r ≡ false → due m e b r ≡ record { text = []; ends = []; rows = [] }
   unfolding due blanksDue
   due-quiet p q = rw (p, q)
 
-  due-text :
+  pub due-text :
       putsText e r ≡ true → endsField r ≡ false
       → due m e b r
       ≡ record { text = replicate (min (e .field .held - m) (contentLimit - (e .field .content + m))) 0x20 ++ when (byteLeft e) b; ends = []; rows = [] }
   unfolding due blanksDue
   due-text p q = rw (p, q)
 
-  due-field :
+  pub due-field :
       putsText e r ≡ false → endsField r ≡ true → eqb (r .begun) 0 ≡ false
       → due m e b r ≡ record { text = []; ends = r .counts .text ∷ []; rows = [] }
   unfolding due blanksDue
   due-field p q u = rw (p, q, u)
 
-  due-record :
+  pub due-record :
       putsText e r ≡ false → endsField r ≡ true → eqb (r .begun) 0 ≡ true
       → due m e b r ≡ record { text = []; ends = r .counts .text ∷ []; rows = r .counts .fields .0 ∷ [] }
   unfolding due blanksDue

@@ -54,20 +54,6 @@ pub data Calls (b sum : ℕ) : Bytes → Bytes → Out → Stream → Type 0 whe
   close : {f : Bytes} {o : Out} {s : Stream} (r : Room) (c : Called)
       → Calls b sum f [] o s → c ≡ closed s r → Calls b sum f [] (then o (c .out)) (c .state)
 
--- what start, feed and close promise: the result, for every state; and what it means of a state that stands for a dialect, bytes taken and what is out
-pub record Started (b sum : ℕ) (s : Stream) : Type 0 where
-  pub result : s ≡ streamStarted b sum
-  pub stands : (g : Bytes) → Stands b sum [] g nothing s
-
-pub record Fed (s : Stream) (piece : Bytes) (r : Room) (c : Called) : Type 0 where
-  pub result : c ≡ streamed s piece r
-  pub stands : (b sum : ℕ) (f g : Bytes) (o : Out)
-      → Stands b sum f (piece ++ g) o s → Stands b sum (f ++ take (c .taken) piece) (drop (c .taken) piece ++ g) (then o (c .out)) (c .state)
-
-pub record Closed (s : Stream) (r : Room) (c : Called) : Type 0 where
-  pub result : c ≡ closed s r
-  pub stands : (b sum : ℕ) (f : Bytes) (o : Out) → Stands b sum f [] o s → Stands b sum f [] (then o (c .out)) (c .state)
-
 -- A call as the code gives it: what is filled is counted, and what came out stands over the front of each buffer, the rest of which stays.
 pub record Into (c : Called) (text : Bytes) (ends rows : List ℕ) (r : Streamed) (text′ : Bytes) (ends′ rows′ : List ℕ) : Type 0 where
   pub state : r .state ≡ c .state
@@ -82,6 +68,21 @@ pub record Into (c : Called) (text : Bytes) (ends rows : List ℕ) (r : Streamed
   pub ends-is : ends′ ≡ over (c .out .ends) ends
   pub rows-is : rows′ ≡ over (c .out .rows) rows
 
--- the close has no room for text, and needs none
-abbrev pub closeRoom : List ℕ → List ℕ → Room
-closeRoom ends rows = record { text = 0; ends = length ends; rows = length rows }
+-- room is what the buffers have; the close has none for text, and needs none
+abbrev pub roomOf : Bytes → List ℕ → List ℕ → Room
+roomOf text ends rows = record { text = length text; ends = length ends; rows = length rows }
+
+-- What start, feed and close promise: the result, for every state; and what it means of a state that stands for a dialect, bytes taken, bytes ahead and
+-- what is out.
+pub record Started (b sum : ℕ) (s : Stream) : Type 0 where
+  pub result : s ≡ streamStarted b sum
+  pub stands : (g : Bytes) → Stands b sum [] g nothing s
+
+pub record Fed (s : Stream) (piece text : Bytes) (ends rows : List ℕ) (r : Streamed) (text′ : Bytes) (ends′ rows′ : List ℕ) : Type 0 where
+  pub into : Into (streamed s piece (roomOf text ends rows)) text ends rows r text′ ends′ rows′
+  pub stands : (b sum : ℕ) (f g : Bytes) (o : Out) → Stands b sum f (piece ++ g) o s
+      → Stands b sum (f ++ take (r .taken) piece) (drop (r .taken) piece ++ g) (then o (streamed s piece (roomOf text ends rows) .out)) (r .state)
+
+pub record Closed (s : Stream) (ends rows : List ℕ) (r : Streamed) (ends′ rows′ : List ℕ) : Type 0 where
+  pub into : Into (closed s (roomOf [] ends rows)) [] ends rows r [] ends′ rows′
+  pub stands : (b sum : ℕ) (f : Bytes) (o : Out) → Stands b sum f [] o s → Stands b sum f [] (then o (closed s (roomOf [] ends rows) .out)) (r .state)

@@ -100,6 +100,35 @@ fine-entry shut = row-all (λ m. T (fine shut m)) _ _ _ _ _ _ _ tt tt tt tt tt t
 fine-entry tail = row-all (λ m. T (fine tail m)) _ _ _ _ _ _ _ tt tt tt tt tt tt tt
 fine-entry cr = row-all (λ m. T (fine cr m)) _ _ _ _ _ _ _ tt tt tt tt tt tt tt
 
+-- an act inside a field leads to no field's start, and a refusal has a number
+abbrev pub Proper : Act → Type 0
+Proper (refuse n) = eqb n 0 ≡ false
+Proper (go j nothing) = eqb (formNumber j) (formNumber start) ≡ false
+Proper (go j put) = eqb (formNumber j) (formNumber start) ≡ false
+Proper (go j hold) = eqb (formNumber j) (formNumber start) ≡ false
+Proper (go j drop) = eqb (formNumber j) (formNumber start) ≡ false
+Proper (go j field-end) = Unit {0}
+Proper (go j record-end) = Unit {0}
+
+module _ (lf : Bool) (k : Form) (x : Class) where
+  proper : (m : Move) → T (fine k m) → Proper (carry lf k x m)
+  proper (wrong n) t = by (eqb n 0) t
+    where
+      by : (y : Bool) → T (not y) → y ≡ false
+      by true u = absurd u
+      by false u = refl
+  proper end t = decide Proper (behindCr k || lf) (λ e. tt) (λ e. refl)
+  proper (to start) t = tt
+  proper (to lead) t = refl
+  proper (to bare) t = decide (λ o. Proper (go bare o)) (isBlank x) (λ e. refl) (λ e. refl)
+  proper (to quoted) t = decide (λ o. Proper (go quoted o)) (inQuotes k) (λ e. refl) (λ e. refl)
+  proper (to shut) t = refl
+  proper (to tail) t = refl
+  proper (to cr) t = refl
+
+  pub step-proper : Proper (stepOf lf k x)
+  step-proper = rw (step-entry lf k x) (proper (next k x) (fine-entry k x))
+
 -- the forms in which a field may be over, and the classes at which it may
 abbrev pub over : Form → Bool
 over start = true

@@ -1,0 +1,97 @@
+-- `stream::flowed` meets its contract. The loop's invariant: what is to come from the start on is what has come, and then the rest.
+use Prim.Native.Nat.{_-_, _<_}
+use native.Mathlib.Omega.{arith}
+use lib.ListN.{length}
+use Rattle.stream.specs.Walk.{restOf, Grew}
+use Rattle.stream.proofs.Growing.{grew-none, grew-then, grew-inside, grew-sizes, end-grew}
+use Rattle.stream.proofs.flowed.Statement.{statement}
+use Rattle.stream.proofs.flowed.Tie as tie
+use Rattle.stream.proofs.flowed.Reads as reads
+use Rattle.stream.proofs.flowed.Lts as lts
+use Rattle.stream.proofs.next_most.Reads as next-most-reads
+use Rattle.stream.proofs.passed.Reads as passed-reads
+use Rattle.stream.proofs.still.Reads as still-reads
+use Rattle.stream.proofs.take_byte.Reads as take-byte-reads
+
+abbrev Inv-loop : tie.InvT-loop
+Inv-loop piece text₀ ends₀ rows₀ h₀ most₀ text ends rows h most = Grew piece h₀ text₀ ends₀ rows₀ h text ends rows (restOf h piece text ends rows)
+
+abbrev μ-loop : tie.MeasureT-loop
+μ-loop piece text₀ ends₀ rows₀ h₀ most₀ text ends rows h most = length piece - h .taken
+
+loop-holds : tie.Need-loop-holds Inv-loop μ-loop
+loop-holds c = grew-none (record { taken-in = omega arith; text-in = omega arith; ends-in = omega arith; rows-in = omega arith })
+
+passed-requires : tie.Need-passed-requires Inv-loop μ-loop
+passed-requires c κs = grew-inside (c .before .before .before .before .before .loop .inv)
+
+next-most-requires : tie.Need-next-most-requires Inv-loop μ-loop
+next-most-requires c κs = tt
+
+take-byte-requires : tie.Need-take-byte-requires Inv-loop μ-loop
+take-byte-requires c κs = grew-inside (c .before .before .before .before .before .before .before .before .before .before .before .before .passed .ensures)
+
+same-length : tie.Need-same-length Inv-loop μ-loop
+same-length c = grew-sizes (grew-then (grew-then (c .before .before .before .before .before .before .before .before .before .before .before .before .before .before .before .before .before .before .before .before .before .before .before .before .before .before .before .before .loop .inv) (c .before .before .before .before .before .before .before .before .before .before .before .before .before .before .before .before .before .before .before .before .before .before .passed .ensures)) (c .before .before .before .before .before .before .before .before .before .take-byte .ensures .ended (c .if2 .taken))) .0
+
+same-length-2 : tie.Need-same-length-2 Inv-loop μ-loop
+same-length-2 c = grew-sizes (grew-then (grew-then (c .before .before .before .before .before .before .before .before .before .before .before .before .before .before .before .before .before .before .before .before .before .before .before .before .before .before .before .before .loop .inv) (c .before .before .before .before .before .before .before .before .before .before .before .before .before .before .before .before .before .before .before .before .before .before .passed .ensures)) (c .before .before .before .before .before .before .before .before .before .take-byte .ensures .ended (c .if2 .taken))) .1
+
+same-length-3 : tie.Need-same-length-3 Inv-loop μ-loop
+same-length-3 c = grew-sizes (grew-then (grew-then (c .before .before .before .before .before .before .before .before .before .before .before .before .before .before .before .before .before .before .before .before .before .before .before .before .before .before .before .before .loop .inv) (c .before .before .before .before .before .before .before .before .before .before .before .before .before .before .before .before .before .before .before .before .before .before .passed .ensures)) (c .before .before .before .before .before .before .before .before .before .take-byte .ensures .ended (c .if2 .taken))) .2
+
+returns : tie.Need-returns Inv-loop μ-loop
+returns c = grew-then (grew-then (c .before .before .before .before .before .before .before .before .before .before .before .before .before .before .before .before .before .before .before .before .before .before .before .before .before .before .before .before .loop .inv) (c .before .before .before .before .before .before .before .before .before .before .before .before .before .before .before .before .before .before .before .before .before .before .passed .ensures)) (c .before .before .before .before .before .before .before .before .before .take-byte .ensures .ended (c .if2 .taken))
+
+-- a byte was taken
+further : (c : tie.Else2 Inv-loop μ-loop) → c .before .before .before .before .before .before .before .before .before .before .before .before .before .before .before .before .before .before .before .before .before .before .passed .result .taken < c .before .before .before .before .before .before .before .before .before .take-byte .result .taken
+further c = omega (arith, c .before .before .before .before .before .before .before .before .before .take-byte .ensures .on, c .if2 .left)
+
+loop-less : tie.Need-loop-less Inv-loop μ-loop
+loop-less c =
+    let p = c .before .before .before .before .before .before .before .before .before .before .before .before .before .before .before .before .before .before .before .before .before .before .passed .ensures in
+    let t = c .before .before .before .before .before .before .before .before .before .take-byte .ensures in
+    let l = further c in
+    omega (arith, p .on, l, t .took l .inside)
+
+loop-again : tie.Need-loop-again Inv-loop μ-loop
+loop-again c = grew-then (grew-then (c .before .before .before .before .before .before .before .before .before .before .before .before .before .before .before .before .before .before .before .before .before .before .before .before .before .before .before .before .loop .inv) (c .before .before .before .before .before .before .before .before .before .before .before .before .before .before .before .before .before .before .before .before .before .before .passed .ensures)) (c .before .before .before .before .before .before .before .before .before .take-byte .ensures .took (further c))
+
+still-requires : tie.Need-still-requires Inv-loop μ-loop
+still-requires c κs = tt
+
+same-length-4 : tie.Need-same-length-4 Inv-loop μ-loop
+same-length-4 c = grew-sizes (c .before .before .before .loop .inv) .0
+
+same-length-5 : tie.Need-same-length-5 Inv-loop μ-loop
+same-length-5 c = grew-sizes (c .before .before .before .loop .inv) .1
+
+same-length-6 : tie.Need-same-length-6 Inv-loop μ-loop
+same-length-6 c = grew-sizes (c .before .before .before .loop .inv) .2
+
+returns-2 : tie.Need-returns-2 Inv-loop μ-loop
+returns-2 c =
+    let g = c .before .before .before .loop .inv in
+    rw (c .still .ensures) (grew-then g (end-grew (grew-inside g) (c .before .if1 .left)))
+
+pub flowed-spec : {M : Type 1} → statement M
+flowed-spec =
+    tie.close
+    (tie.spec
+    Inv-loop
+    μ-loop
+    loop-holds
+    passed-requires
+    next-most-requires
+    take-byte-requires
+    same-length
+    same-length-2
+    same-length-3
+    returns
+    loop-less
+    loop-again
+    still-requires
+    same-length-4
+    same-length-5
+    same-length-6
+    returns-2)
