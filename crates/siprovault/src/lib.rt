@@ -6,6 +6,7 @@ ghost use Prim.Native.Nat.{min};
 ghost use Rattle.format.specs.Answer.{writerNumbers, searchNumbers, partNumbers};
 ghost use Rattle.format.specs.Memory.{largest32};
 ghost use Rattle.pieces.specs.Answers.{Started, Fed, Asked};
+ghost use Rattle.output.specs.Promises.{Started as StreamStarted, Fed as StreamFed, Closed as StreamClosed};
 ghost use Rattle.reader.specs.Read.{ReadOutcome};
 ghost use Rattle.tables.specs.Search.{Searched};
 ghost use Rattle.tables.specs.Shown.{Located};
@@ -20,6 +21,8 @@ use format::Part;
 use format::RecordNumber;
 use format::TextIndex;
 use format::Written;
+use output::Stream;
+use output::Streamed;
 use state::Check;
 
 // An index from 0, of the kind that the refusal tells: of a text byte for 3, of a field for 9, of a
@@ -99,6 +102,36 @@ pub extern "C" fn sv_check_ask(state: Check) -> Answer
     ensures { λ r. ⌜ Asked state r ⌝ }
 {
     pieces::ask(state)
+}
+
+// Starts a stream with a dialect.
+#[no_mangle]
+pub extern "C" fn sv_stream_start(delimiter: u8, leniencies: u8) -> Stream
+    ensures { λ r. ⌜ StreamStarted delimiter leniencies r ⌝ }
+{
+    stream::start(delimiter, leniencies)
+}
+
+// Feeds a stream a piece, and puts out what is known.
+#[no_mangle]
+pub extern "C" fn sv_stream_feed(
+    state: Stream,
+    piece: &[u8],
+    text: &mut [u8],
+    ends: &mut [u32],
+    rows: &mut [u32],
+) -> Streamed
+    ensures { λ r. ⌜ StreamFed state (now (piece .entry)) (now (text .entry)) (now (ends .entry)) (now (rows .entry)) r (now (text .exit)) (now (ends .exit)) (now (rows .exit)) ⌝ }
+{
+    stream::feed(state, piece, text, ends, rows)
+}
+
+// Closes a stream, both last ends at once.
+#[no_mangle]
+pub extern "C" fn sv_stream_close(state: Stream, ends: &mut [u32], rows: &mut [u32]) -> Streamed
+    ensures { λ r. ⌜ StreamClosed state (now (ends .entry)) (now (rows .entry)) r (now (ends .exit)) (now (rows .exit)) ⌝ }
+{
+    stream::close(state, ends, rows)
 }
 
 // Writes a table as a strict file, plain in mode 0 and full in mode 1.
