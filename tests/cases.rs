@@ -12,6 +12,8 @@ mod content_limit;
 mod dialect_bytes;
 #[path = "cases/every_byte.rs"]
 mod every_byte;
+#[path = "cases/examples.rs"]
+mod examples;
 #[path = "cases/file_limit.rs"]
 mod file_limit;
 #[path = "cases/hand_states.rs"]
@@ -26,8 +28,6 @@ mod limit_runs;
 mod malformed;
 #[path = "cases/many_rows.rs"]
 mod many_rows;
-#[path = "cases/examples.rs"]
-mod examples;
 #[path = "cases/random.rs"]
 mod random;
 #[path = "cases/random_files.rs"]
@@ -42,32 +42,32 @@ mod runs;
 mod short_files;
 #[path = "cases/small_tables.rs"]
 mod small_tables;
-#[path = "cases/stream.rs"]
-mod stream;
+#[path = "cases/wire.rs"]
+mod wire;
 #[path = "cases/writer_order.rs"]
 mod writer_order;
 
 fn main() -> io::Result<()> {
     laws::hold_of_the_model();
     let out = BufWriter::with_capacity(1 << 16, io::stdout());
-    let mut stream = stream::Stream::new(out)?;
-    examples::send(&mut stream)?;
-    short_files::send(&mut stream)?;
-    every_byte::send(&mut stream)?;
-    dialect_bytes::send(&mut stream)?;
-    rooms::send(&mut stream)?;
-    random_files::send(&mut stream)?;
-    runs::send(&mut stream)?;
-    many_rows::send(&mut stream)?;
-    content_limit::send(&mut stream)?;
-    file_limit::send(&mut stream)?;
-    limit_runs::send(&mut stream)?;
-    hand_states::send(&mut stream)?;
-    small_tables::send(&mut stream)?;
-    writer_order::send(&mut stream)?;
-    random_tables::send(&mut stream)?;
-    malformed::send(&mut stream)?;
-    headers::send(&mut stream)?;
-    big_shapes::send(&mut stream)?;
-    stream.finish()
+    let mut wire = wire::Wire::new(out)?;
+    examples::send(&mut wire)?;
+    short_files::send(&mut wire)?;
+    every_byte::send(&mut wire)?;
+    dialect_bytes::send(&mut wire)?;
+    rooms::send(&mut wire)?;
+    random_files::send(&mut wire)?;
+    runs::send(&mut wire)?;
+    many_rows::send(&mut wire)?;
+    content_limit::send(&mut wire)?;
+    file_limit::send(&mut wire)?;
+    limit_runs::send(&mut wire)?;
+    hand_states::send(&mut wire)?;
+    small_tables::send(&mut wire)?;
+    writer_order::send(&mut wire)?;
+    random_tables::send(&mut wire)?;
+    malformed::send(&mut wire)?;
+    headers::send(&mut wire)?;
+    big_shapes::send(&mut wire)?;
+    wire.finish()
 }

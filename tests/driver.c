@@ -2,7 +2,7 @@
 #include "driver/cases.h"
 #include "driver/face.h"
 #include "driver/report.h"
-#include "driver/stream.h"
+#include "driver/wire.h"
 
 #include <stdio.h>
 
@@ -10,7 +10,7 @@ static void take_magic(void)
 {
     for (const char *magic = "SVCASES1"; *magic != '\0'; magic++)
         if (take_byte() != (uint8_t)*magic)
-            broken_stream("it does not begin as one");
+            broken_wire("it does not begin as one");
 }
 
 static void take_section(void)
@@ -25,12 +25,12 @@ static void take_section(void)
 static void take_trailer(void)
 {
     if (take_number() != sections_begun())
-        broken_stream("sections are missing");
+        broken_wire("sections are missing");
     for (uint64_t section = 0; section < sections_begun(); section++)
         if (take_number() != cases_of(section))
-            broken_stream("cases are missing");
-    if (!stream_ends())
-        broken_stream("more follows its trailer");
+            broken_wire("cases are missing");
+    if (!wire_ends())
+        broken_wire("more follows its trailer");
 }
 
 /* Takes one item; answers whether it was the trailer. */
@@ -63,7 +63,7 @@ static bool take_item(void)
         take_trailer();
         break;
     default:
-        broken_stream("an item of no known kind");
+        broken_wire("an item of no known kind");
     }
     return letter == 'E';
 }

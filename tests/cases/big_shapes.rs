@@ -2,25 +2,25 @@
 
 use crate::model::table::Table;
 use crate::rooms::usual_writes;
-use crate::stream::Stream;
+use crate::wire::Wire;
 use std::io::{self, Write};
 
 const COLUMNS: usize = 300;
 const MANY: usize = 70_000;
 
-pub fn send<W: Write>(stream: &mut Stream<W>) -> io::Result<()> {
-    stream.section("a header of 300 columns")?;
-    send_header(stream, None)?;
+pub fn send<W: Write>(wire: &mut Wire<W>) -> io::Result<()> {
+    wire.section("a header of 300 columns")?;
+    send_header(wire, None)?;
     // A later column has the name of an earlier one.
     for pair in [(0, 299), (298, 299), (255, 256), (0, 256), (1, 257)] {
-        send_header(stream, Some(pair))?;
+        send_header(wire, Some(pair))?;
     }
-    stream.section("70,000 fields in a record, and 70,000 records")?;
-    send_wide(stream)?;
-    send_tall(stream)
+    wire.section("70,000 fields in a record, and 70,000 records")?;
+    send_wide(wire)?;
+    send_tall(wire)
 }
 
-fn send_header<W: Write>(stream: &mut Stream<W>, equal: Option<(usize, usize)>) -> io::Result<()> {
+fn send_header<W: Write>(wire: &mut Wire<W>, equal: Option<(usize, usize)>) -> io::Result<()> {
     let mut names: Vec<Vec<u8>> = (0..COLUMNS).map(|c| format!("c{}", c).into()).collect();
     if let Some((earlier, later)) = equal {
         names[later] = names[earlier].clone();
@@ -31,23 +31,23 @@ fn send_header<W: Write>(stream: &mut Stream<W>, equal: Option<(usize, usize)>) 
     ];
     let last = COLUMNS as u64;
     let places = [(0, 255), (0, 256), (1, 0), (1, last - 1), (1, last)];
-    stream.table(&table, &usual_writes(&table), &wanted, &places)
+    wire.table(&table, &usual_writes(&table), &wanted, &places)
 }
 
 /// One record; its header is not searched, since that takes time by the square of its columns.
-fn send_wide<W: Write>(stream: &mut Stream<W>) -> io::Result<()> {
+fn send_wide<W: Write>(wire: &mut Wire<W>) -> io::Result<()> {
     let mut table = Table::default();
     for number in 0..MANY {
         table.push_field(content(number));
     }
     table.close_record();
     let places: Vec<_> = edges().map(|column| (0, column)).collect();
-    stream.table(&table, &usual_writes(&table), &[], &places)
+    wire.table(&table, &usual_writes(&table), &[], &places)
 }
 
 /// Records of one field each; then the last of them has two, and is refused by a number that is
 /// more than sixteen bits hold.
-fn send_tall<W: Write>(stream: &mut Stream<W>) -> io::Result<()> {
+fn send_tall<W: Write>(wire: &mut Wire<W>) -> io::Result<()> {
     let mut table = Table::default();
     for number in 0..MANY {
         table.push_field(content(number));
@@ -56,11 +56,11 @@ fn send_tall<W: Write>(stream: &mut Stream<W>) -> io::Result<()> {
     let mut places: Vec<_> = edges().map(|record| (record, 0)).collect();
     places.push((MANY as u64 - 1, 1));
     let names: [&[u8]; 2] = [content(0), content(1)];
-    stream.table(&table, &usual_writes(&table), &names, &places)?;
+    wire.table(&table, &usual_writes(&table), &names, &places)?;
     table.push_field(b"z");
     *table.rows.last_mut().expect("there are records") += 1;
     places.extend([(MANY as u64 - 1, 2), (MANY as u64 - 2, 1)]);
-    stream.table(&table, &usual_writes(&table), &names, &places)
+    wire.table(&table, &usual_writes(&table), &names, &places)
 }
 
 /// Contents of up to two bytes, which differ from those of fields 65,536 and 256 places before.

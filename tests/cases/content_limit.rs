@@ -4,7 +4,7 @@ use crate::model::{BLANK, CONTENT_LIMIT, QUOTE};
 use crate::random::Random;
 use crate::random_files::random_pieces;
 use crate::rooms::usual;
-use crate::stream::{Recipe, Stream};
+use crate::wire::{Recipe, Wire};
 use std::io::{self, Write};
 
 pub const DIALECTS: [(u8, u8); 6] = [
@@ -25,8 +25,8 @@ const BEHIND: [&str; 15] = [
     " \"",
 ];
 
-pub fn send<W: Write>(stream: &mut Stream<W>) -> io::Result<()> {
-    stream.section("contents of 4,096 and 4,097 bytes")?;
+pub fn send<W: Write>(wire: &mut Wire<W>) -> io::Result<()> {
+    wire.section("contents of 4,096 and 4,097 bytes")?;
     let mut random = Random::from_seed(4096);
     for dialect in DIALECTS {
         let own = |part: &str| with_delimiter(part.as_bytes(), dialect.0);
@@ -37,20 +37,20 @@ pub fn send<W: Write>(stream: &mut Stream<W>) -> io::Result<()> {
                         let mut recipe = vec![(own(before), 1)];
                         recipe.extend(field.clone());
                         recipe.push((own(behind), 1));
-                        send_one(stream, &mut random, dialect, &recipe)?;
+                        send_one(wire, &mut random, dialect, &recipe)?;
                     }
                 }
             }
         }
         let long = vec![(vec![b'a'], CONTENT_LIMIT + 1)];
         let two = [long.clone(), vec![(own(","), 1)], long].concat();
-        send_one(stream, &mut random, dialect, &two)?;
+        send_one(wire, &mut random, dialect, &two)?;
     }
     Ok(())
 }
 
 fn send_one<W: Write>(
-    stream: &mut Stream<W>,
+    wire: &mut Wire<W>,
     random: &mut Random,
     dialect: (u8, u8),
     recipe: &Recipe,
@@ -59,7 +59,7 @@ fn send_one<W: Write>(
     // The last three bytes come one by one: faults at the field's end are found there.
     let mut pieces = random_pieces(random, length - 3);
     pieces.extend([1, 1, 1]);
-    stream.long(dialect, recipe, &pieces, usual(length, random.below(8)))
+    wire.long(dialect, recipe, &pieces, usual(length, random.below(8)))
 }
 
 /// Fields whose contents have this many bytes, in some dialect at least.

@@ -4,7 +4,7 @@
 use crate::model::table::Table;
 use crate::random_files::all_dialects;
 use crate::rooms::{usual, usual_writes};
-use crate::stream::Stream;
+use crate::wire::Wire;
 use std::io::{self, Write};
 
 /// What stands before and behind the byte, one line for each row of the rules' table of steps (the
@@ -19,36 +19,36 @@ const AROUND: [(&[u8], &[u8]); 7] = [
     (b"\r", b""),
 ];
 
-pub fn send<W: Write>(stream: &mut Stream<W>) -> io::Result<()> {
-    stream.section("files of every byte in every state, in 64 dialects")?;
+pub fn send<W: Write>(wire: &mut Wire<W>) -> io::Result<()> {
+    wire.section("files of every byte in every state, in 64 dialects")?;
     for (delimiter, leniencies) in all_dialects() {
-        stream.dialect(delimiter, leniencies)?;
+        wire.dialect(delimiter, leniencies)?;
         for byte in 0..=255 {
             for (before, behind) in AROUND {
                 let file = [before, &[byte], behind].concat();
-                stream.walk(&file, usual(file.len(), byte.into()))?;
+                wire.walk(&file, usual(file.len(), byte.into()))?;
             }
         }
     }
-    stream.section("every byte as a content and as a name")?;
+    wire.section("every byte as a content and as a name")?;
     for byte in 0..=255 {
-        send_content(stream, byte)?;
+        send_content(wire, byte)?;
     }
-    send_all_names(stream)
+    send_all_names(wire)
 }
 
 /// The byte alone in a table, which is searched for it, for its neighbours and for two of it.
-fn send_content<W: Write>(stream: &mut Stream<W>, byte: u8) -> io::Result<()> {
+fn send_content<W: Write>(wire: &mut Wire<W>, byte: u8) -> io::Result<()> {
     let mut table = Table::default();
     table.push_field(&[byte]);
     table.close_record();
     let (below, above) = ([byte.wrapping_sub(1)], [byte.wrapping_add(1)]);
     let names = [&[byte][..], &below, &above, &[byte, byte], b""];
-    stream.table(&table, &usual_writes(&table), &names, &[(0, 0), (0, 1)])
+    wire.table(&table, &usual_writes(&table), &names, &[(0, 0), (0, 1)])
 }
 
 /// A header of all names of one byte, each of which is found at its own column.
-fn send_all_names<W: Write>(stream: &mut Stream<W>) -> io::Result<()> {
+fn send_all_names<W: Write>(wire: &mut Wire<W>) -> io::Result<()> {
     let bytes: Vec<u8> = (0..=255).collect();
     let mut table = Table::default();
     for name in bytes.chunks(1) {
@@ -56,5 +56,5 @@ fn send_all_names<W: Write>(stream: &mut Stream<W>) -> io::Result<()> {
     }
     table.close_record();
     let names: Vec<&[u8]> = bytes.chunks(1).collect();
-    stream.table(&table, &usual_writes(&table), &names, &[])
+    wire.table(&table, &usual_writes(&table), &names, &[])
 }

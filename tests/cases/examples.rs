@@ -5,7 +5,7 @@ use crate::model::reader::{check, Answer};
 use crate::model::table::Table;
 use crate::model::writer::{write, FULL, PLAIN};
 use crate::rooms::usual;
-use crate::stream::Stream;
+use crate::wire::Wire;
 use std::io::{self, Write};
 
 const STRICT: u8 = 0;
@@ -63,17 +63,17 @@ const FILES: [(&[u8], u8, Says); 20] = [
     (&[b'a'; 4097], STRICT, Says::No(9, 1, 1, 0)),
 ];
 
-pub fn send<W: Write>(stream: &mut Stream<W>) -> io::Result<()> {
-    stream.section("the rules' examples")?;
+pub fn send<W: Write>(wire: &mut Wire<W>) -> io::Result<()> {
+    wire.section("the rules' examples")?;
     for (file, leniencies, says) in &FILES {
         assert_eq!(check(file, b',', *leniencies).0, says.answer());
         let rooms = usual(file.len(), 0);
         if file.len() < 64 {
-            stream.dialect(b',', *leniencies)?;
-            stream.walk(file, rooms)?;
+            wire.dialect(b',', *leniencies)?;
+            wire.walk(file, rooms)?;
         } else {
             let (recipe, pieces) = (vec![(file.to_vec(), 1)], [file.len()]);
-            stream.long((b',', *leniencies), &recipe, &pieces, rooms)?;
+            wire.long((b',', *leniencies), &recipe, &pieces, rooms)?;
         }
     }
     let table = table_of(&[b"", b"x,y"]);
@@ -82,14 +82,14 @@ pub fn send<W: Write>(stream: &mut Stream<W>) -> io::Result<()> {
         write(&table, FULL, 10).1,
         Some(b"\"\",\"x,y\"\r\n".to_vec())
     );
-    stream.table(&table, &[(PLAIN, 8), (FULL, 10)], &[], &[])?;
+    wire.table(&table, &[(PLAIN, 8), (FULL, 10)], &[], &[])?;
     let header = table_of(&[b"a", b"b", b"b", b"a"]);
     let later = Column {
         refusal: 16,
         column: 2,
     };
     assert_eq!(find_column(&header, b"a"), later);
-    stream.table(&header, &[], &[b"a", b"b", b"c"], &[])
+    wire.table(&header, &[], &[b"a", b"b", b"c"], &[])
 }
 
 fn table_of(contents: &[&[u8]]) -> Table {

@@ -3,7 +3,7 @@
 use crate::model::reader::{Answer, Room};
 use crate::model::{refusal, FILE_LIMIT};
 use crate::rooms::{ample, changed, exact};
-use crate::stream::{Recipe, Stream};
+use crate::wire::{Recipe, Wire};
 use std::io::{self, Write};
 
 const STRICT: (u8, u8) = (b',', 0);
@@ -11,29 +11,29 @@ const LF: (u8, u8) = (b',', 1);
 const BLANKS: (u8, u8) = (b';', 2);
 const UNKNOWN: (u8, u8) = (b'a', 16);
 
-pub fn send<W: Write>(stream: &mut Stream<W>) -> io::Result<()> {
-    stream.section("files of 16,777,216 and 16,777,217 bytes")?;
+pub fn send<W: Write>(wire: &mut Wire<W>) -> io::Result<()> {
+    wire.section("files of 16,777,216 and 16,777,217 bytes")?;
     let full = FILE_LIMIT;
     // As many fields as there can be, as many records, and as much text.
-    send_one(stream, STRICT, &[(b",", full)], &[1])?;
-    send_one(stream, LF, &[(b"\n", full)], &[1])?;
+    send_one(wire, STRICT, &[(b",", full)], &[1])?;
+    send_one(wire, LF, &[(b"\n", full)], &[1])?;
     let line = [vec![b'a'; 4_094], b"\r\n".to_vec()].concat();
-    send_one(stream, STRICT, &[(&line, full / line.len())], &[])?;
+    send_one(wire, STRICT, &[(&line, full / line.len())], &[])?;
     // The greatest column, the greatest line, and an opening quote far behind.
-    send_one(stream, STRICT, &[(b",", full - 1), (b"\x01", 1)], &[])?;
-    send_one(stream, LF, &[(b"\n", full - 1), (b"\r", 1)], &[1, 3])?;
-    send_one(stream, STRICT, &[(b"\"", 1), (b"a", full - 1)], &[])?;
+    send_one(wire, STRICT, &[(b",", full - 1), (b"\x01", 1)], &[])?;
+    send_one(wire, LF, &[(b"\n", full - 1), (b"\r", 1)], &[1, 3])?;
+    send_one(wire, STRICT, &[(b"\"", 1), (b"a", full - 1)], &[])?;
     // Blanks that are dropped, and as many bytes that are not.
-    send_one(stream, BLANKS, &[(b" ", full - 1), (b"a", 1)], &[])?;
-    send_one(stream, STRICT, &[(b"a", full)], &[])?;
+    send_one(wire, BLANKS, &[(b" ", full - 1), (b"a", 1)], &[])?;
+    send_one(wire, STRICT, &[(b"a", full)], &[])?;
     // An early fault stays until the file is too long; a bad dialect comes before that.
-    send_one(stream, STRICT, &[(b"\"\"a", 1), (b"a", full - 3)], &[1, 1])?;
-    send_one(stream, UNKNOWN, &[(b"a", full)], &[1])
+    send_one(wire, STRICT, &[(b"\"\"a", 1), (b"a", full - 3)], &[1, 1])?;
+    send_one(wire, UNKNOWN, &[(b"a", full)], &[1])
 }
 
 /// The file of these parts, and, where more bytes follow, the longer file too.
 fn send_one<W: Write>(
-    stream: &mut Stream<W>,
+    wire: &mut Wire<W>,
     dialect: (u8, u8),
     parts: &[(&[u8], usize)],
     more: &[usize],
@@ -41,11 +41,11 @@ fn send_one<W: Write>(
     let own = |&(part, times): &(&[u8], usize)| (part.to_vec(), times);
     let mut recipe: Recipe = parts.iter().map(own).collect();
     let mut pieces = doubling_pieces();
-    stream.long(dialect, &recipe, &pieces, rooms)?;
+    wire.long(dialect, &recipe, &pieces, rooms)?;
     if !more.is_empty() {
         pieces.extend(more);
         recipe.push((b"\n".to_vec(), more.iter().sum()));
-        stream.long(dialect, &recipe, &pieces, rooms)?;
+        wire.long(dialect, &recipe, &pieces, rooms)?;
     }
     Ok(())
 }

@@ -5,14 +5,14 @@
 use crate::content_limit::with_delimiter;
 use crate::model::dialect::DELIMITERS;
 use crate::random::Random;
-use crate::stream::{HandState, Stream};
+use crate::wire::{HandState, Wire};
 use std::io::{self, Write};
 
 const STATES: usize = 6_000;
 const NUMBERED_STATES: usize = 200_000;
 
-pub fn send<W: Write>(stream: &mut Stream<W>) -> io::Result<()> {
-    stream.section("check states put together by hand")?;
+pub fn send<W: Write>(wire: &mut Wire<W>) -> io::Result<()> {
+    wire.section("check states put together by hand")?;
     const BYTES: &[u8] = b"aab  ,;\t|\"\"\r\n\n\x01\x80";
     let mut random = Random::from_seed(17);
     for number in 0..STATES {
@@ -26,21 +26,21 @@ pub fn send<W: Write>(stream: &mut Stream<W>) -> io::Result<()> {
             hits: (number % 3 * (1 + random.below(2))) as u64,
             fed_then: &random.bytes(BYTES, lengths.1),
         };
-        stream.hand_state(&state)?;
+        wire.hand_state(&state)?;
     }
-    send_numbered(stream, &mut random)
+    send_numbered(wire, &mut random)
 }
 
 /// States of numbers chosen one by one, each fed a piece that is made of runs.
-fn send_numbered<W: Write>(stream: &mut Stream<W>, random: &mut Random) -> io::Result<()> {
-    stream.section("check states put together number by number, fed with runs")?;
+fn send_numbered<W: Write>(wire: &mut Wire<W>, random: &mut Random) -> io::Result<()> {
+    wire.section("check states put together number by number, fed with runs")?;
     for _ in 0..NUMBERED_STATES {
         let mut numbers: Vec<u32> = state_bytes(random).iter().map(|&b| b.into()).collect();
         numbers.extend((0..16).map(|_| counter(random)));
         let longest = random.pick(&[20, 70, 135, 200]);
         let length = 1 + random.below(longest);
         let piece = runs(random, numbers[0] as u8, length);
-        stream.numbered_state(&numbers, &piece, random.below(length + 1))?;
+        wire.numbered_state(&numbers, &piece, random.below(length + 1))?;
     }
     Ok(())
 }

@@ -1,13 +1,13 @@
 //! Every header of up to four names, some of which begin others, searched for each name.
 
 use crate::model::table::Table;
-use crate::stream::Stream;
+use crate::wire::Wire;
 use std::io::{self, Write};
 
 const NAMES: [&[u8]; 5] = [b"", b"a", b"b", b"aa", b"ab"];
 
-pub fn send<W: Write>(stream: &mut Stream<W>) -> io::Result<()> {
-    stream.section("every header of up to 4 columns")?;
+pub fn send<W: Write>(wire: &mut Wire<W>) -> io::Result<()> {
+    wire.section("every header of up to 4 columns")?;
     let mut wanted = NAMES.to_vec();
     wanted.extend([&b"aab"[..], b"ba"]);
     for columns in 1..=4 {
@@ -24,8 +24,8 @@ pub fn send<W: Write>(stream: &mut Stream<W>) -> io::Result<()> {
                 table.push_field(b"");
                 table.close_record();
             }
-            stream.table(&table, &[], &wanted, &[])?;
+            wire.table(&table, &[], &wanted, &[])?;
         }
     }
-    stream.table(&Table::default(), &[], &wanted, &[(0, 0)])
+    wire.table(&Table::default(), &[], &wanted, &[(0, 0)])
 }

@@ -5,40 +5,40 @@ use crate::model::writer::{FULL, PLAIN};
 use crate::random::Random;
 use crate::random_tables::{every_place, random_table};
 use crate::small_tables::every_content;
-use crate::stream::Stream;
+use crate::wire::Wire;
 use std::io::{self, Write};
 
 const DAMAGED: usize = 3_000;
 
-pub fn send<W: Write>(stream: &mut Stream<W>) -> io::Result<()> {
-    stream.section("every small table in memory, malformed or not")?;
+pub fn send<W: Write>(wire: &mut Wire<W>) -> io::Result<()> {
+    wire.section("every small table in memory, malformed or not")?;
     let lists = every_list();
     for text in [&b""[..], b"a", b"ab", b"aba"] {
         for ends in &lists {
             for rows in &lists {
-                send_one(stream, text.to_vec(), ends.clone(), rows.clone())?;
+                send_one(wire, text.to_vec(), ends.clone(), rows.clone())?;
             }
         }
     }
-    stream.section("random tables, damaged")?;
+    wire.section("random tables, damaged")?;
     let mut random = Random::from_seed(14);
     for _ in 0..DAMAGED {
         let mut table = random_table(&mut random);
         damage(&mut random, &mut table);
-        send_one(stream, table.text, table.ends, table.rows)?;
+        send_one(wire, table.text, table.ends, table.rows)?;
     }
     Ok(())
 }
 
 fn send_one<W: Write>(
-    stream: &mut Stream<W>,
+    wire: &mut Wire<W>,
     text: Vec<u8>,
     ends: Vec<u32>,
     rows: Vec<u32>,
 ) -> io::Result<()> {
     let table = Table { text, ends, rows };
     let writes = [(PLAIN, 64), (FULL, 64), (FULL, 0), (2, 0)];
-    stream.table(&table, &writes, &[b"a", b""], &every_place(&table))
+    wire.table(&table, &writes, &[b"a", b""], &every_place(&table))
 }
 
 /// Every list of up to three entries from 0 to 3.

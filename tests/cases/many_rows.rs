@@ -6,7 +6,7 @@ use crate::model::{BLANK, CONTENT_LIMIT, QUOTE};
 use crate::random::Random;
 use crate::random_files::{all_dialects, random_pieces};
 use crate::rooms::around;
-use crate::stream::{Recipe, Stream};
+use crate::wire::{Recipe, Wire};
 use std::io::{self, Write};
 
 /// Where in a block the other row begins.
@@ -44,25 +44,25 @@ struct Rows {
     times: usize,
 }
 
-pub fn send<W: Write>(stream: &mut Stream<W>) -> io::Result<()> {
+pub fn send<W: Write>(wire: &mut Wire<W>) -> io::Result<()> {
     let mut random = Random::from_seed(64);
-    stream.section("many plain rows with another among them, in 64 dialects")?;
+    wire.section("many plain rows with another among them, in 64 dialects")?;
     for (number, dialect) in all_dialects().enumerate() {
         for rows in shapes() {
             for (turn, other) in rows.others().into_iter().enumerate() {
                 let place = PLACES[(number + turn) % PLACES.len()];
                 let trial = rows.around(place, &other, dialect.0);
-                send_trial(stream, &mut random, dialect, &trial)?;
+                send_trial(wire, &mut random, dialect, &trial)?;
             }
         }
     }
-    stream.section("many plain rows with a field of 4,095 to 4,097 bytes among them")?;
+    wire.section("many plain rows with a field of 4,095 to 4,097 bytes among them")?;
     for dialect in DIALECTS {
         for place in PLACES {
             for other in long_fields() {
                 let rows = &shapes()[1];
                 let trial = rows.around(place, &rows.with_field(1, &other), dialect.0);
-                send_trial(stream, &mut random, dialect, &trial)?;
+                send_trial(wire, &mut random, dialect, &trial)?;
             }
         }
     }
@@ -153,7 +153,7 @@ fn length_of(recipe: &Recipe) -> usize {
 
 /// A file at once, cut within the other row and one byte behind it, and in a few pieces.
 fn send_trial<W: Write>(
-    stream: &mut Stream<W>,
+    wire: &mut Wire<W>,
     random: &mut Random,
     dialect: (u8, u8),
     trial: &Trial,
@@ -168,7 +168,7 @@ fn send_trial<W: Write>(
     let cuts = [vec![length], vec![cut, ends + 1 - cut, length - ends - 1]];
     let turn = random.below(70);
     for pieces in cuts.into_iter().chain([random_pieces(random, length)]) {
-        stream.long(dialect, &trial.recipe, &pieces, around(length, turn))?;
+        wire.long(dialect, &trial.recipe, &pieces, around(length, turn))?;
     }
     Ok(())
 }

@@ -6,7 +6,7 @@ use crate::model::table::Table;
 use crate::model::{BLANK, CR, LF, QUOTE, TAB};
 use crate::random::Random;
 use crate::rooms::usual;
-use crate::stream::Stream;
+use crate::wire::Wire;
 use std::io::{self, Write};
 
 /// Tables for each dialect; each gives a whole file, a file read in another dialect and three
@@ -17,18 +17,18 @@ const DAMAGED: usize = 3;
 /// Long files for each dialect, each whole and damaged.
 const LONG_TABLES: usize = 3;
 
-pub fn send<W: Write>(stream: &mut Stream<W>) -> io::Result<()> {
+pub fn send<W: Write>(wire: &mut Wire<W>) -> io::Result<()> {
     let mut random = Random::from_seed(4180);
-    stream.section("random files, whole and damaged")?;
+    wire.section("random files, whole and damaged")?;
     for dialect in all_dialects() {
         for _ in 0..TABLES {
-            send_walked(stream, &mut random, dialect)?;
+            send_walked(wire, &mut random, dialect)?;
         }
     }
-    stream.section("long random files, whole and damaged")?;
+    wire.section("long random files, whole and damaged")?;
     for dialect in all_dialects() {
         for _ in 0..LONG_TABLES {
-            send_long(stream, &mut random, dialect)?;
+            send_long(wire, &mut random, dialect)?;
         }
     }
     Ok(())
@@ -40,23 +40,23 @@ pub fn all_dialects() -> impl Iterator<Item = (u8, u8)> {
 }
 
 fn send_walked<W: Write>(
-    stream: &mut Stream<W>,
+    wire: &mut Wire<W>,
     random: &mut Random,
     (delimiter, leniencies): (u8, u8),
 ) -> io::Result<()> {
     let file = whole_file(random, (delimiter, leniencies), 7);
-    stream.dialect(delimiter, leniencies)?;
-    stream.walk(&file, usual(file.len(), random.below(8)))?;
+    wire.dialect(delimiter, leniencies)?;
+    wire.walk(&file, usual(file.len(), random.below(8)))?;
     for _ in 0..DAMAGED {
         let worse = damaged(random, &file);
-        stream.walk(&worse, usual(worse.len(), random.below(8)))?;
+        wire.walk(&worse, usual(worse.len(), random.below(8)))?;
     }
-    stream.dialect(random.pick(&DELIMITERS), random.below(16) as u8)?;
-    stream.walk(&file, usual(file.len(), random.below(8)))
+    wire.dialect(random.pick(&DELIMITERS), random.below(16) as u8)?;
+    wire.walk(&file, usual(file.len(), random.below(8)))
 }
 
 fn send_long<W: Write>(
-    stream: &mut Stream<W>,
+    wire: &mut Wire<W>,
     random: &mut Random,
     dialect: (u8, u8),
 ) -> io::Result<()> {
@@ -65,7 +65,7 @@ fn send_long<W: Write>(
     for file in [file, worse] {
         let pieces = random_pieces(random, file.len());
         let rooms = usual(file.len(), random.below(8));
-        stream.long(dialect, &vec![(file, 1)], &pieces, rooms)?;
+        wire.long(dialect, &vec![(file, 1)], &pieces, rooms)?;
     }
     Ok(())
 }

@@ -3,18 +3,18 @@
 use crate::model::table::Table;
 use crate::random::Random;
 use crate::rooms::usual_writes;
-use crate::stream::Stream;
+use crate::wire::Wire;
 use std::io::{self, Write};
 
 const TABLES: usize = 3_000;
 
-pub fn send<W: Write>(stream: &mut Stream<W>) -> io::Result<()> {
-    stream.section("random tables")?;
+pub fn send<W: Write>(wire: &mut Wire<W>) -> io::Result<()> {
+    wire.section("random tables")?;
     let mut random = Random::from_seed(3);
     for _ in 0..TABLES {
         let table = random_table(&mut random);
         let names = some_names(&table);
-        stream.table(&table, &usual_writes(&table), &names, &every_place(&table))?;
+        wire.table(&table, &usual_writes(&table), &names, &every_place(&table))?;
     }
     Ok(())
 }

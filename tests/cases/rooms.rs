@@ -4,7 +4,7 @@ use crate::model::reader::{check, Answer, Room};
 use crate::model::table::Table;
 use crate::model::writer::{write, FULL, PLAIN};
 use crate::model::{refusal, FILE_LIMIT};
-use crate::stream::Stream;
+use crate::wire::Wire;
 use std::io::{self, Write};
 
 const NONE: Room = Room {
@@ -118,13 +118,13 @@ const FILES: [(&[u8], u8); 6] = [
 ];
 
 /// Every room from none to two places more than is needed, in every combination.
-pub fn send<W: Write>(stream: &mut Stream<W>) -> io::Result<()> {
-    stream.section("every room, too little included")?;
+pub fn send<W: Write>(wire: &mut Wire<W>) -> io::Result<()> {
+    wire.section("every room, too little included")?;
     for (file, leniencies) in FILES {
         let delimiter = if leniencies == 0 { b',' } else { b';' };
         let need = exact(&check(file, delimiter, leniencies).0);
-        stream.dialect(delimiter, leniencies)?;
-        stream.walk(file, |_| every_room_around(need))?;
+        wire.dialect(delimiter, leniencies)?;
+        wire.walk(file, |_| every_room_around(need))?;
     }
     Ok(())
 }

@@ -5,7 +5,7 @@ use crate::content_limit::with_delimiter;
 use crate::laws::agrees_with_the_grammar;
 use crate::random_files::all_dialects;
 use crate::rooms::around;
-use crate::stream::Stream;
+use crate::wire::Wire;
 use std::io::{self, Write};
 
 /// Dialects in which every run is tried; the others see the shorter set.
@@ -59,31 +59,31 @@ enum How {
     AtEveryCut(usize),
 }
 
-pub fn send<W: Write>(stream: &mut Stream<W>) -> io::Result<()> {
+pub fn send<W: Write>(wire: &mut Wire<W>) -> io::Result<()> {
     let lengths: Vec<usize> = lengths().collect();
-    stream.section("runs that end around 8 to 128 bytes, in 4 dialects, at once")?;
-    send_runs(stream, How::AtOnce, &FOUR_DIALECTS, &BEFORE, &lengths)?;
-    stream.section("runs that end around 8 to 64 bytes, in 64 dialects, at once")?;
+    wire.section("runs that end around 8 to 128 bytes, in 4 dialects, at once")?;
+    send_runs(wire, How::AtOnce, &FOUR_DIALECTS, &BEFORE, &lengths)?;
+    wire.section("runs that end around 8 to 64 bytes, in 64 dialects, at once")?;
     let all: Vec<(u8, u8)> = all_dialects().collect();
-    send_runs(stream, How::AtOnce, &all, &SHORT_BEFORE, &SHORT_LENGTHS)?;
-    stream.section("some of these runs at every cut")?;
+    send_runs(wire, How::AtOnce, &all, &SHORT_BEFORE, &SHORT_LENGTHS)?;
+    wire.section("some of these runs at every cut")?;
     let how = How::AtEveryCut(7);
-    send_runs(stream, how, &FOUR_DIALECTS, &BEFORE, &lengths)?;
+    send_runs(wire, how, &FOUR_DIALECTS, &BEFORE, &lengths)?;
     let how = How::AtEveryCut(23);
-    send_runs(stream, how, &all, &SHORT_BEFORE, &SHORT_LENGTHS)?;
-    stream.section("130 bytes of rows with something else at every place, at once")?;
-    send_rows(stream, How::AtOnce)?;
-    stream.section("some of these rows at every cut")?;
-    send_rows(stream, How::AtEveryCut(7))?;
-    stream.section("long tails behind a fault, at every cut")?;
-    send_tails(stream, FOUR_DIALECTS[0])?;
-    send_tails(stream, FOUR_DIALECTS[3])?;
+    send_runs(wire, how, &all, &SHORT_BEFORE, &SHORT_LENGTHS)?;
+    wire.section("130 bytes of rows with something else at every place, at once")?;
+    send_rows(wire, How::AtOnce)?;
+    wire.section("some of these rows at every cut")?;
+    send_rows(wire, How::AtEveryCut(7))?;
+    wire.section("long tails behind a fault, at every cut")?;
+    send_tails(wire, FOUR_DIALECTS[0])?;
+    send_tails(wire, FOUR_DIALECTS[3])?;
     Ok(())
 }
 
 /// A file in the dialect given last, if its turn has come.
 fn send_file<W: Write>(
-    stream: &mut Stream<W>,
+    wire: &mut Wire<W>,
     how: How,
     dialect: (u8, u8),
     file: Vec<u8>,
@@ -96,9 +96,9 @@ fn send_file<W: Write>(
                 agrees_with_the_grammar(&file, dialect.0, dialect.1);
             }
             let whole = [file.len()];
-            stream.long(dialect, &vec![(file, 1)], &whole, rooms)
+            wire.long(dialect, &vec![(file, 1)], &whole, rooms)
         }
-        How::AtEveryCut(one_in) if turn % one_in == 0 => stream.walk(&file, rooms),
+        How::AtEveryCut(one_in) if turn % one_in == 0 => wire.walk(&file, rooms),
         How::AtEveryCut(_) => Ok(()),
     }
 }
@@ -115,20 +115,20 @@ fn run(unit: &[u8], length: usize) -> Vec<u8> {
 }
 
 fn send_runs<W: Write>(
-    stream: &mut Stream<W>,
+    wire: &mut Wire<W>,
     how: How,
     dialects: &[(u8, u8)],
     befores: &[&[u8]],
     lengths: &[usize],
 ) -> io::Result<()> {
     for (number, &dialect) in dialects.iter().enumerate() {
-        stream.dialect(dialect.0, dialect.1)?;
+        wire.dialect(dialect.0, dialect.1)?;
         // Other files have their turn in each dialect.
         let mut turn = number;
         for_each_run(befores, lengths, &mut |begin, kind| {
             for ending in kind.endings {
                 let file = with_delimiter(&ended(begin, ending, kind, turn), dialect.0);
-                send_file(stream, how, dialect, file, turn)?;
+                send_file(wire, how, dialect, file, turn)?;
                 turn += 1;
             }
             Ok(())
@@ -191,15 +191,15 @@ const OTHER: [&[u8]; 14] = [
     b"\x80", b"\t",
 ];
 
-fn send_rows<W: Write>(stream: &mut Stream<W>, how: How) -> io::Result<()> {
+fn send_rows<W: Write>(wire: &mut Wire<W>, how: How) -> io::Result<()> {
     for (number, dialect) in FOUR_DIALECTS.into_iter().enumerate() {
-        stream.dialect(dialect.0, dialect.1)?;
+        wire.dialect(dialect.0, dialect.1)?;
         let mut turn = number;
         for row in rows() {
             for_each_change(&row, &mut |file| {
                 turn += 1;
                 let file = with_delimiter(file, dialect.0);
-                send_file(stream, how, dialect, file, turn)
+                send_file(wire, how, dialect, file, turn)
             })?;
         }
     }
@@ -238,18 +238,15 @@ const FAULTS: [&[u8]; 11] = [
 ];
 
 /// Several hundred bytes behind a fault, with a line feed at every so many of them.
-fn send_tails<W: Write>(
-    stream: &mut Stream<W>,
-    (delimiter, leniencies): (u8, u8),
-) -> io::Result<()> {
+fn send_tails<W: Write>(wire: &mut Wire<W>, (delimiter, leniencies): (u8, u8)) -> io::Result<()> {
     const TAIL: usize = 330;
-    stream.dialect(delimiter, leniencies)?;
+    wire.dialect(delimiter, leniencies)?;
     for fault in FAULTS {
         for gap in SHORT_LENGTHS.into_iter().chain([0, 1, 127, 128, 129]) {
             let line = [&run(LETTERS, gap), &b"\n"[..]].concat();
             let file = [fault, &run(&line, TAIL)].concat();
             let file = with_delimiter(&file, delimiter);
-            stream.walk(&file, around(file.len(), gap))?;
+            wire.walk(&file, around(file.len(), gap))?;
         }
     }
     Ok(())

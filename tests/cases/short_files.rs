@@ -2,7 +2,7 @@
 
 use crate::model::dialect::DELIMITERS;
 use crate::rooms::usual;
-use crate::stream::Stream;
+use crate::wire::Wire;
 use std::io::{self, Write};
 
 /// A byte or two of each class, in every dialect.
@@ -14,31 +14,31 @@ pub const SIX: &[u8; 6] = b"a ,\"\r\n";
 /// Strict; blanks; lf and ragged; everything.
 pub const FOUR_SUMS: [u8; 4] = [0, 2, 5, 15];
 
-pub fn send<W: Write>(stream: &mut Stream<W>) -> io::Result<()> {
-    stream.section("files of up to 4 bytes of 12, in 64 dialects")?;
+pub fn send<W: Write>(wire: &mut Wire<W>) -> io::Result<()> {
+    wire.section("files of up to 4 bytes of 12, in 64 dialects")?;
     for delimiter in DELIMITERS {
         for leniencies in 0..16 {
-            send_all(stream, (delimiter, leniencies), TWELVE, 4)?;
+            send_all(wire, (delimiter, leniencies), TWELVE, 4)?;
         }
     }
-    stream.section("files of up to 6 bytes of 6, in 4 dialects")?;
+    wire.section("files of up to 6 bytes of 6, in 4 dialects")?;
     for leniencies in FOUR_SUMS {
-        send_all(stream, (b',', leniencies), SIX, 6)?;
+        send_all(wire, (b',', leniencies), SIX, 6)?;
     }
     Ok(())
 }
 
 fn send_all<W: Write>(
-    stream: &mut Stream<W>,
+    wire: &mut Wire<W>,
     (delimiter, leniencies): (u8, u8),
     alphabet: &[u8],
     longest: usize,
 ) -> io::Result<()> {
-    stream.dialect(delimiter, leniencies)?;
+    wire.dialect(delimiter, leniencies)?;
     let mut turn = 0;
     for_each_file(alphabet, longest, &mut |file| {
         turn += 1;
-        stream.walk(file, usual(file.len(), turn))
+        wire.walk(file, usual(file.len(), turn))
     })
 }
 

@@ -3,7 +3,7 @@
 use crate::model::table::Table;
 use crate::rooms::usual_writes;
 use crate::short_files::for_each_file;
-use crate::stream::Stream;
+use crate::wire::Wire;
 use std::io::{self, Write};
 
 const SIX: &[u8] = b"a,\"\r\n ";
@@ -20,14 +20,14 @@ const SHAPES: [(&[usize], &[u8], usize); 8] = [
     (&[2, 1], SIX, 1),
 ];
 
-pub fn send<W: Write>(stream: &mut Stream<W>) -> io::Result<()> {
-    stream.section("every small table, written both ways")?;
+pub fn send<W: Write>(wire: &mut Wire<W>) -> io::Result<()> {
+    wire.section("every small table, written both ways")?;
     for (shape, alphabet, longest) in SHAPES {
         let contents = every_content(alphabet, longest);
         let fields: usize = shape.iter().sum();
         for number in 0..contents.len().pow(fields as u32) {
             let table = nth_table(shape, &contents, number);
-            stream.table(&table, &usual_writes(&table), &[], &[])?;
+            wire.table(&table, &usual_writes(&table), &[], &[])?;
         }
     }
     Ok(())

@@ -4,7 +4,7 @@ use crate::model::table::Table;
 use crate::model::writer::{FULL, PLAIN};
 use crate::model::{CONTENT_LIMIT, FILE_LIMIT};
 use crate::rooms::{ample_to_write, usual_writes};
-use crate::stream::Stream;
+use crate::wire::Wire;
 use std::io::{self, Write};
 
 type Records = Vec<Vec<Vec<u8>>>;
@@ -12,27 +12,27 @@ type Records = Vec<Vec<Vec<u8>>>;
 /// A change to the records that the writer must refuse; each is made early or late in the table.
 const FAULTS: [fn(&mut Records, bool); 3] = [forbid, lengthen, unbalance];
 
-pub fn send<W: Write>(stream: &mut Stream<W>) -> io::Result<()> {
-    stream.section("the writer's refusals in order")?;
+pub fn send<W: Write>(wire: &mut Wire<W>) -> io::Result<()> {
+    wire.section("the writer's refusals in order")?;
     for faults in 0..8 {
         for late in 0..8 {
-            send_combination(stream, faults, late)?;
+            send_combination(wire, faults, late)?;
         }
     }
-    stream.section("contents of 4,096 and 4,097 bytes, written both ways")?;
+    wire.section("contents of 4,096 and 4,097 bytes, written both ways")?;
     for byte in *b"a,\"\r\n " {
-        send_contents(stream, byte)?;
+        send_contents(wire, byte)?;
     }
-    stream.section("every mode of the writer")?;
+    wire.section("every mode of the writer")?;
     for records in [vec![], plain_records(), vec![vec![vec![0x07]]]] {
         let table = Table::of(&records);
         let writes: Vec<_> = (0..=255).map(|mode| (mode, 64)).collect();
-        stream.table(&table, &writes, &[], &[])?;
+        wire.table(&table, &writes, &[], &[])?;
     }
-    stream.section("tables at the file size limit")?;
+    wire.section("tables at the file size limit")?;
     for table in big_tables() {
         let writes = [usual_writes(&table), bad_modes(&table)].concat();
-        stream.table(&table, &writes, &[], &[])?;
+        wire.table(&table, &writes, &[], &[])?;
     }
     Ok(())
 }
@@ -48,11 +48,7 @@ fn plain_records() -> Records {
 }
 
 /// The faults whose bits are set, each late if its bit in `late` is, well formed and malformed.
-fn send_combination<W: Write>(
-    stream: &mut Stream<W>,
-    faults: usize,
-    late: usize,
-) -> io::Result<()> {
+fn send_combination<W: Write>(wire: &mut Wire<W>, faults: usize, late: usize) -> io::Result<()> {
     let mut records = plain_records();
     for (bit, fault) in FAULTS.iter().enumerate() {
         if faults >> bit & 1 != 0 {
@@ -62,25 +58,25 @@ fn send_combination<W: Write>(
     let table = Table::of(&records);
     let no_room = vec![(PLAIN, 0), (FULL, 0)];
     let writes = [usual_writes(&table), no_room, bad_modes(&table)].concat();
-    stream.table(&table, &writes, &[], &[])?;
+    wire.table(&table, &writes, &[], &[])?;
     let mut malformed = table;
     malformed.rows.pop();
     let writes = [usual_writes(&malformed), bad_modes(&malformed)].concat();
-    stream.table(&malformed, &writes, &[], &[])
+    wire.table(&malformed, &writes, &[], &[])
 }
 
 /// Contents at the limit and one byte over it: alone, and in a table of two by two, from each of its
 /// fields on.
-fn send_contents<W: Write>(stream: &mut Stream<W>, byte: u8) -> io::Result<()> {
+fn send_contents<W: Write>(wire: &mut Wire<W>, byte: u8) -> io::Result<()> {
     for length in [CONTENT_LIMIT, CONTENT_LIMIT + 1] {
         let content = vec![byte; length];
         let alone = Table::of(&[vec![content.clone()]]);
-        stream.table(&alone, &usual_writes(&alone), &[], &[])?;
+        wire.table(&alone, &usual_writes(&alone), &[], &[])?;
         for first in 0..4 {
             let mut fields = vec![b"x".to_vec(); 4];
             fields[first..].fill(content.clone());
             let table = Table::of(&[fields[..2].to_vec(), fields[2..].to_vec()]);
-            stream.table(&table, &usual_writes(&table), &[], &[])?;
+            wire.table(&table, &usual_writes(&table), &[], &[])?;
         }
     }
     Ok(())

@@ -1,4 +1,4 @@
-/* The kinds of case, one function for each letter of the stream. */
+/* The kinds of case, one function for each letter on the wire. */
 #ifndef CASES_H
 #define CASES_H
 

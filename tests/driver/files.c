@@ -1,8 +1,8 @@
-/* Files: read with every room that the stream names, and checked in pieces. */
+/* Files: read with every room that the wire names, and checked in pieces. */
 #include "cases.h"
 #include "face.h"
 #include "report.h"
-#include "stream.h"
+#include "wire.h"
 
 #include <stdio.h>
 #include <string.h>
@@ -131,7 +131,7 @@ void take_dialect(void)
 static void take_next_byte(void)
 {
     if (walked_length == MOST_WALKED)
-        broken_stream("a walked file is too long");
+        broken_wire("a walked file is too long");
     size_t before = walked_length++;
     walked[before] = take_byte();
     take_answer(answers[walked_length], ANSWER);
@@ -201,7 +201,7 @@ void take_walked_file(void)
     size_t coming = take_number();
     case_begins(show_walked);
     if (kept > walked_length)
-        broken_stream("more of a walked file stays than there is");
+        broken_wire("more of a walked file stays than there is");
     walked_length = kept;
     if (kept == 0)
         ask_twice(fed_by_byte[0], answers[0], "nothing fed", 0, 0);
@@ -233,7 +233,7 @@ static void take_parts(void)
         take_list(&part);
         for (uint64_t times = take_number(); times > 0; times--) {
             if (part.length > file.capacity - length)
-                broken_stream("a file is too long");
+                broken_wire("a file is too long");
             memcpy(front + length, list_start(&part), part.length);
             length += part.length;
         }
@@ -251,7 +251,7 @@ static void take_pieces(uint32_t *answer)
     for (uint64_t pieces = take_number(); pieces > 0; pieces--) {
         size_t length = take_number();
         if (length > file.length - fed)
-            broken_stream("the pieces are longer than the file");
+            broken_wire("the pieces are longer than the file");
         state = feed(state, bytes + fed, length);
         fed += length;
         take_answer(answer, ANSWER);

@@ -39,7 +39,7 @@ void list_open(struct list *list, size_t width, size_t most)
 void list_resize(struct list *list, size_t length)
 {
     if (length > list->capacity)
-        broken_stream("a list is too long");
+        broken_wire("a list is too long");
     list->length = length;
 }
 
@@ -64,7 +64,7 @@ static size_t bytes_of(const struct lent *lent) { return GUARD + lent->room * le
 void *lend(struct lent *lent, size_t room)
 {
     if (room > lent->capacity)
-        broken_stream("more room than the driver has");
+        broken_wire("more room than the driver has");
     lent->room = room;
     /* One of two fillings: a byte written in many calls cannot pass for untouched in all. */
     lent->fill = coin() ? 0xC3 : 0x3C;

@@ -26,7 +26,7 @@ static void (*show_case)(void) = show_nothing;
 void section_begins(const uint8_t *name, size_t length)
 {
     if (begun == SECTIONS || length >= NAME)
-        broken_stream("too many sections, or too long a name");
+        broken_wire("too many sections, or too long a name");
     memcpy(sections[begun].name, name, length);
     begun++;
 }
@@ -34,7 +34,7 @@ void section_begins(const uint8_t *name, size_t length)
 void case_begins(void (*show)(void))
 {
     if (begun == 0)
-        broken_stream("a case outside a section");
+        broken_wire("a case outside a section");
     sections[begun - 1].cases++;
     show_case = show;
 }
@@ -139,9 +139,9 @@ void watch_for_crashes(void)
         signal(numbers[i], crashed);
 }
 
-void broken_stream(const char *why)
+void broken_wire(const char *why)
 {
-    printf("the stream of cases is broken: %s\n", why);
+    printf("the wire of cases is broken: %s\n", why);
     exit(2);
 }
 

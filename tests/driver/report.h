@@ -28,8 +28,8 @@ void print_words(const char *name, const uint32_t *words, size_t length);
 /* Has a call that crashes name its case. */
 void watch_for_crashes(void);
 
-/* Ends the program: the stream is not what the generator writes. */
-void broken_stream(const char *why);
+/* Ends the program: the wire does not carry what the generator writes. */
+void broken_wire(const char *why);
 
 uint64_t sections_begun(void);
 uint64_t cases_of(uint64_t section);

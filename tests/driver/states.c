@@ -4,7 +4,7 @@
 #include "cases.h"
 #include "face.h"
 #include "report.h"
-#include "stream.h"
+#include "wire.h"
 
 #include <stdio.h>
 #include <string.h>
@@ -136,7 +136,7 @@ void take_numbered_state(void)
     take_list(&fed_then);
     size_t cut = take_number();
     if (cut > fed_then.length)
-        broken_stream("a cut is behind what is fed");
+        broken_wire("a cut is behind what is fed");
     state = state_of_numbers(numbers);
     case_begins(show_state);
     feed_alike(cut);

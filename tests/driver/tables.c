@@ -2,7 +2,7 @@
 #include "cases.h"
 #include "face.h"
 #include "report.h"
-#include "stream.h"
+#include "wire.h"
 
 #include <stdio.h>
 

@@ -1,6 +1,6 @@
 //! The form in which cases travel to the driver.
 //!
-//! The stream is the eight bytes `SVCASES1`, then items, each a letter and what belongs to it.
+//! The wire carries the eight bytes `SVCASES1`, then items, each a letter and what belongs to it.
 //! A number takes seven bits to a byte, the lowest first, and the top bit says that more follow.
 //! An answer is a mask byte of its numbers that are not 0, then these numbers. A list is its
 //! length, then its entries: up to `PLAIN_LIST` of them one by one, more than that in runs of
@@ -52,7 +52,7 @@ pub struct HandState<'a> {
     pub fed_then: &'a [u8],
 }
 
-pub struct Stream<W: Write> {
+pub struct Wire<W: Write> {
     out: W,
     counts: Vec<u64>,
     delimiter: u8,
@@ -60,10 +60,10 @@ pub struct Stream<W: Write> {
     walked: Vec<u8>,
 }
 
-impl<W: Write> Stream<W> {
-    pub fn new(mut out: W) -> io::Result<Stream<W>> {
+impl<W: Write> Wire<W> {
+    pub fn new(mut out: W) -> io::Result<Wire<W>> {
         out.write_all(b"SVCASES1")?;
-        Ok(Stream {
+        Ok(Wire {
             out,
             counts: Vec::new(),
             delimiter: 0,
@@ -182,7 +182,7 @@ impl<W: Write> Stream<W> {
         self.number(cut as u64)
     }
 
-    /// The trailer, without which the driver takes no stream as whole.
+    /// The trailer, without which the driver takes no wire as whole.
     pub fn finish(mut self) -> io::Result<()> {
         self.out.write_all(b"E")?;
         let counts = std::mem::take(&mut self.counts);

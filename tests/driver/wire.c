@@ -1,4 +1,4 @@
-#include "stream.h"
+#include "wire.h"
 
 #include "report.h"
 
@@ -18,12 +18,12 @@ static bool refill(void)
     return filled > 0;
 }
 
-bool stream_ends(void) { return at == filled && !refill(); }
+bool wire_ends(void) { return at == filled && !refill(); }
 
 uint8_t take_byte(void)
 {
     if (at == filled && !refill())
-        broken_stream("it ends before its trailer");
+        broken_wire("it ends before its trailer");
     return buffer[at++];
 }
 
@@ -34,7 +34,7 @@ uint64_t take_number(void)
     uint8_t byte;
     do {
         if (shift > 63)
-            broken_stream("a number without end");
+            broken_wire("a number without end");
         byte = take_byte();
         number |= (uint64_t)(byte & 0x7F) << shift;
         shift += 7;
@@ -72,7 +72,7 @@ void take_list(struct list *into)
         uint64_t step = zigzag >> 1 ^ (0 - (zigzag & 1));
         uint64_t count = take_number();
         if (count == 0 || count > length - i)
-            broken_stream("a run is longer than its list");
+            broken_wire("a run is longer than its list");
         for (; count > 0; count--, entry += step)
             put(into, i++, entry);
     }

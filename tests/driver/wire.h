@@ -1,6 +1,6 @@
-/* The stream of cases on standard input; cases/stream.rs says what form it has. */
-#ifndef STREAM_H
-#define STREAM_H
+/* The wire: cases on standard input; cases/wire.rs says in what form. */
+#ifndef WIRE_H
+#define WIRE_H
 
 #include "memory.h"
 
@@ -15,6 +15,6 @@ void take_answer(uint32_t *into, unsigned count);
 void take_list(struct list *into);
 
 /* Whether no byte is left. */
-bool stream_ends(void);
+bool wire_ends(void);
 
 #endif
