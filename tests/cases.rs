@@ -38,10 +38,22 @@ mod random_tables;
 mod rooms;
 #[path = "cases/runs.rs"]
 mod runs;
+#[path = "cases/sessions.rs"]
+mod sessions;
 #[path = "cases/short_files.rs"]
 mod short_files;
 #[path = "cases/small_tables.rs"]
 mod small_tables;
+#[path = "cases/stream_laws.rs"]
+mod stream_laws;
+#[path = "cases/stream_limit.rs"]
+mod stream_limit;
+#[path = "cases/stream_long.rs"]
+mod stream_long;
+#[path = "cases/stream_short.rs"]
+mod stream_short;
+#[path = "cases/stream_states.rs"]
+mod stream_states;
 #[path = "cases/wire.rs"]
 mod wire;
 #[path = "cases/writer_order.rs"]
@@ -49,6 +61,7 @@ mod writer_order;
 
 fn main() -> io::Result<()> {
     laws::hold_of_the_model();
+    stream_laws::hold_of_the_model();
     let out = BufWriter::with_capacity(1 << 16, io::stdout());
     let mut wire = wire::Wire::new(out)?;
     examples::send(&mut wire)?;
@@ -63,6 +76,12 @@ fn main() -> io::Result<()> {
     file_limit::send(&mut wire)?;
     limit_runs::send(&mut wire)?;
     hand_states::send(&mut wire)?;
+    stream_short::send(&mut wire)?;
+    stream_long::send(&mut wire)?;
+    runs::send_streams(&mut wire)?;
+    many_rows::send_streams(&mut wire)?;
+    stream_limit::send(&mut wire)?;
+    stream_states::send(&mut wire)?;
     small_tables::send(&mut wire)?;
     writer_order::send(&mut wire)?;
     random_tables::send(&mut wire)?;

@@ -33,38 +33,33 @@ static void take_trailer(void)
         broken_wire("more follows its trailer");
 }
 
+static const struct {
+    uint8_t letter;
+    void (*take)(void);
+} items[] = {
+    {'S', take_section},
+    {'D', take_dialect},
+    {'W', take_walked_file},
+    {'L', take_long_file},
+    {'T', take_table},
+    {'C', take_hand_state},
+    {'N', take_numbered_state},
+    {'F', take_sessions},
+    {'H', take_stream_hand_state},
+    {'M', take_stream_numbered_state},
+    {'R', take_unruly_session},
+    {'E', take_trailer},
+};
+
 /* Takes one item; answers whether it was the trailer. */
 static bool take_item(void)
 {
     uint8_t letter = take_byte();
-    switch (letter) {
-    case 'S':
-        take_section();
-        break;
-    case 'D':
-        take_dialect();
-        break;
-    case 'W':
-        take_walked_file();
-        break;
-    case 'L':
-        take_long_file();
-        break;
-    case 'T':
-        take_table();
-        break;
-    case 'C':
-        take_hand_state();
-        break;
-    case 'N':
-        take_numbered_state();
-        break;
-    case 'E':
-        take_trailer();
-        break;
-    default:
-        broken_wire("an item of no known kind");
-    }
+    size_t item = 0;
+    while (items[item].letter != letter)
+        if (++item == sizeof items / sizeof items[0])
+            broken_wire("an item of no known kind");
+    items[item].take();
     return letter == 'E';
 }
 
@@ -74,6 +69,8 @@ int main(void)
     files_open();
     tables_open();
     states_open();
+    sessions_open();
+    stream_states_open();
     take_magic();
     while (!take_item())
         continue;

@@ -8,6 +8,7 @@ pub mod dialect;
 pub mod grammar;
 pub mod header;
 pub mod reader;
+pub mod stream;
 pub mod table;
 pub mod writer;
 

@@ -17,10 +17,10 @@ pub const DIALECTS: [(u8, u8); 6] = [
 ];
 
 /// What stands before the field; `,` is the dialect's delimiter here and below.
-const BEFORE: [&str; 3] = ["", "x,y\r\n", "x\r\n"];
+pub const BEFORE: [&str; 3] = ["", "x,y\r\n", "x\r\n"];
 
 /// What stands behind the field.
-const BEHIND: [&str; 15] = [
+pub const BEHIND: [&str; 15] = [
     "", ",", ",b", "\r\n", "\r\nb", "\r\n\r\n", "\n", "\nb", "\r", "\rb", "\x01", "\"", "b", " b",
     " \"",
 ];
@@ -63,7 +63,7 @@ fn send_one<W: Write>(
 }
 
 /// Fields whose contents have this many bytes, in some dialect at least.
-fn fields(length: usize) -> Vec<Recipe> {
+pub fn fields(length: usize) -> Vec<Recipe> {
     let some = |byte: u8, times: usize| (vec![byte], times);
     let quote = || some(QUOTE, 1);
     let blanks = || some(BLANK, 3);

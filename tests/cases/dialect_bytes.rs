@@ -4,7 +4,7 @@ use crate::rooms::usual;
 use crate::wire::Wire;
 use std::io::{self, Write};
 
-const FILES: [&[u8]; 3] = [b"", b"a\"", b",;\t|\n"];
+pub const FILES: [&[u8]; 3] = [b"", b"a\"", b",;\t|\n"];
 
 pub fn send<W: Write>(wire: &mut Wire<W>) -> io::Result<()> {
     wire.section("all 65,536 pairs of dialect bytes")?;

@@ -9,7 +9,7 @@ use std::io::{self, Write};
 
 /// What stands before and behind the byte, one line for each row of the rules' table of steps (the
 /// blank leads only where blanks are dropped).
-const AROUND: [(&[u8], &[u8]); 7] = [
+pub const AROUND: [(&[u8], &[u8]); 7] = [
     (b"", b""),
     (b" ", b""),
     (b"x", b""),

@@ -11,9 +11,11 @@ use std::io::{self, Write};
 const STATES: usize = 6_000;
 const NUMBERED_STATES: usize = 200_000;
 
+/// What states put together by hand are fed.
+pub const BYTES: &[u8] = b"aab  ,;\t|\"\"\r\n\n\x01\x80";
+
 pub fn send<W: Write>(wire: &mut Wire<W>) -> io::Result<()> {
     wire.section("check states put together by hand")?;
-    const BYTES: &[u8] = b"aab  ,;\t|\"\"\r\n\n\x01\x80";
     let mut random = Random::from_seed(17);
     for number in 0..STATES {
         let lengths = (random.below(12), random.below(40));
@@ -46,7 +48,7 @@ fn send_numbered<W: Write>(wire: &mut Wire<W>, random: &mut Random) -> io::Resul
 }
 
 /// Delimiter, leniencies, refusal, form, begun, and the four leniencies used: mostly such as occur.
-fn state_bytes(random: &mut Random) -> [u8; 9] {
+pub fn state_bytes(random: &mut Random) -> [u8; 9] {
     const DELIMITERS: &[u8] = b",,,;;\t\t||\r\n\" a\x00\x80";
     let any = random.next() as u8;
     let refusal = random.below(18) as u8;
@@ -68,7 +70,7 @@ fn state_bytes(random: &mut Random) -> [u8; 9] {
 }
 
 /// A small number, one at or a little below a limit, or any.
-fn counter(random: &mut Random) -> u32 {
+pub fn counter(random: &mut Random) -> u32 {
     const EDGES: [u32; 11] = [
         70,
         255,
@@ -92,7 +94,7 @@ fn counter(random: &mut Random) -> u32 {
 }
 
 /// A piece of this length made of runs and rows, with now and then a byte of its own.
-fn runs(random: &mut Random, delimiter: u8, length: usize) -> Vec<u8> {
+pub fn runs(random: &mut Random, delimiter: u8, length: usize) -> Vec<u8> {
     const UNITS: [&[u8]; 14] = [
         b"a",
         b"abc",

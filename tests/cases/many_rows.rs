@@ -6,6 +6,8 @@ use crate::model::{BLANK, CONTENT_LIMIT, QUOTE};
 use crate::random::Random;
 use crate::random_files::{all_dialects, random_pieces};
 use crate::rooms::around;
+use crate::sessions::Manner;
+use crate::stream_long;
 use crate::wire::{Recipe, Wire};
 use std::io::{self, Write};
 
@@ -47,22 +49,41 @@ struct Rows {
 pub fn send<W: Write>(wire: &mut Wire<W>) -> io::Result<()> {
     let mut random = Random::from_seed(64);
     wire.section("many plain rows with another among them, in 64 dialects")?;
+    for_each_other(&mut |dialect, trial| send_trial(wire, &mut random, dialect, trial))?;
+    wire.section("many plain rows with a field of 4,095 to 4,097 bytes among them")?;
+    for_each_long_field(&mut |dialect, trial| send_trial(wire, &mut random, dialect, trial))
+}
+
+/// The same files by the stream.
+pub fn send_streams<W: Write>(wire: &mut Wire<W>) -> io::Result<()> {
+    let mut random = Random::from_seed(65);
+    wire.section("streams of many plain rows with another among them, in 64 dialects")?;
+    for_each_other(&mut |dialect, trial| send_stream(wire, &mut random, dialect, trial))?;
+    wire.section("streams of many plain rows with a field of 4,095 to 4,097 bytes")?;
+    for_each_long_field(&mut |dialect, trial| send_stream(wire, &mut random, dialect, trial))
+}
+
+type Visit<'a> = &'a mut dyn FnMut((u8, u8), &Trial) -> io::Result<()>;
+
+fn for_each_other(visit: Visit) -> io::Result<()> {
     for (number, dialect) in all_dialects().enumerate() {
         for rows in shapes() {
             for (turn, other) in rows.others().into_iter().enumerate() {
                 let place = PLACES[(number + turn) % PLACES.len()];
-                let trial = rows.around(place, &other, dialect.0);
-                send_trial(wire, &mut random, dialect, &trial)?;
+                visit(dialect, &rows.around(place, &other, dialect.0))?;
             }
         }
     }
-    wire.section("many plain rows with a field of 4,095 to 4,097 bytes among them")?;
+    Ok(())
+}
+
+fn for_each_long_field(visit: Visit) -> io::Result<()> {
     for dialect in DIALECTS {
         for place in PLACES {
             for other in long_fields() {
                 let rows = &shapes()[1];
-                let trial = rows.around(place, &rows.with_field(1, &other), dialect.0);
-                send_trial(wire, &mut random, dialect, &trial)?;
+                let row = rows.with_field(1, &other);
+                visit(dialect, &rows.around(place, &row, dialect.0))?;
             }
         }
     }
@@ -171,6 +192,16 @@ fn send_trial<W: Write>(
         wire.long(dialect, &trial.recipe, &pieces, around(length, turn))?;
     }
     Ok(())
+}
+
+fn send_stream<W: Write>(
+    wire: &mut Wire<W>,
+    random: &mut Random,
+    dialect: (u8, u8),
+    trial: &Trial,
+) -> io::Result<()> {
+    let manners = [Manner::around_blocks(random)];
+    stream_long::send_file(wire, random, dialect, &trial.recipe, &manners)
 }
 
 /// Fields whose contents are as long as may be, a byte shorter or a byte longer, in some dialect at

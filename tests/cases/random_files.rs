@@ -84,7 +84,11 @@ pub fn random_pieces(random: &mut Random, length: usize) -> Vec<usize> {
 }
 
 /// A file that the dialect takes, made from a random table; the model is held to that table.
-fn whole_file(random: &mut Random, (delimiter, leniencies): (u8, u8), longest: usize) -> Vec<u8> {
+pub fn whole_file(
+    random: &mut Random,
+    (delimiter, leniencies): (u8, u8),
+    longest: usize,
+) -> Vec<u8> {
     let style = Style {
         delimiter,
         leniencies,
@@ -97,7 +101,7 @@ fn whole_file(random: &mut Random, (delimiter, leniencies): (u8, u8), longest: u
     file
 }
 
-fn damaged(random: &mut Random, file: &[u8]) -> Vec<u8> {
+pub fn damaged(random: &mut Random, file: &[u8]) -> Vec<u8> {
     const HARMFUL: &[u8] = b"a ,;\t|\"\"\r\n\n\x00\x1F\x7F\x80\xFF";
     let mut file = file.to_vec();
     for _ in 0..=random.below(2) {

@@ -3,8 +3,11 @@
 
 use crate::content_limit::with_delimiter;
 use crate::laws::agrees_with_the_grammar;
+use crate::random::Random;
 use crate::random_files::all_dialects;
 use crate::rooms::around;
+use crate::sessions::Manner;
+use crate::stream_long;
 use crate::wire::Wire;
 use std::io::{self, Write};
 
@@ -52,11 +55,12 @@ const KINDS: [Kind; 2] = [
 /// The model is held to the grammar in one file of so many.
 const HELD_TO_THE_GRAMMAR: usize = 29;
 
-/// How the files of a set are tried: each at once, or one in so many at every cut.
+/// How the files of a set are tried: each at once, or one in so many at every cut or by the stream.
 #[derive(Clone, Copy)]
 enum How {
     AtOnce,
     AtEveryCut(usize),
+    ByStream(usize),
 }
 
 pub fn send<W: Write>(wire: &mut Wire<W>) -> io::Result<()> {
@@ -81,6 +85,19 @@ pub fn send<W: Write>(wire: &mut Wire<W>) -> io::Result<()> {
     Ok(())
 }
 
+/// Some of these files by the stream.
+pub fn send_streams<W: Write>(wire: &mut Wire<W>) -> io::Result<()> {
+    let lengths: Vec<usize> = lengths().collect();
+    wire.section("streams of runs that end around 8 to 128 bytes, in 4 dialects")?;
+    send_runs(wire, How::ByStream(2), &FOUR_DIALECTS, &BEFORE, &lengths)?;
+    wire.section("streams of runs that end around 8 to 64 bytes, in 64 dialects")?;
+    let all: Vec<(u8, u8)> = all_dialects().collect();
+    let how = How::ByStream(11);
+    send_runs(wire, how, &all, &SHORT_BEFORE, &SHORT_LENGTHS)?;
+    wire.section("streams of 130 bytes of rows with something else at every place")?;
+    send_rows(wire, How::ByStream(3))
+}
+
 /// A file in the dialect given last, if its turn has come.
 fn send_file<W: Write>(
     wire: &mut Wire<W>,
@@ -99,7 +116,15 @@ fn send_file<W: Write>(
             wire.long(dialect, &vec![(file, 1)], &whole, rooms)
         }
         How::AtEveryCut(one_in) if turn % one_in == 0 => wire.walk(&file, rooms),
-        How::AtEveryCut(_) => Ok(()),
+        How::ByStream(one_in) if turn % one_in == 0 => {
+            let mut random = Random::from_seed(turn as u64);
+            let manners = [
+                Manner::around_blocks(&mut random),
+                Manner::random(&mut random),
+            ];
+            stream_long::send_file(wire, &mut random, dialect, &vec![(file, 1)], &manners)
+        }
+        How::AtEveryCut(_) | How::ByStream(_) => Ok(()),
     }
 }
 

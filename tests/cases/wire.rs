@@ -19,25 +19,41 @@
 //!   how many places are hit (0: all), the list fed then.
 //! - `N`, a check state put together number by number: its numbers in the order of the header, the
 //!   list fed then, the length of the first piece where it is fed in two.
-//! - `E`, the trailer: how many sections, and for each how many items `W`, `L`, `T`, `C` and `N`.
+//! - `F`, a file by the stream: delimiter and leniencies; its parts, as in `L`; all that comes out,
+//!   as a table's three lists; how many sessions, and for each how many calls, and each of them.
+//! - `H`, a stream's state put together by hand: what belongs to `C`, then the cut and the room.
+//! - `M`, a stream's state put together number by number: what belongs to `N`, with the stream's two
+//!   numbers behind the check's, then the room.
+//! - `R`, a session that keeps no rule: delimiter and leniencies; how many calls, each a byte, 1 for
+//!   a close, the room and, if it is no close, the list fed.
+//! - `E`, the trailer: how many sections, and for each how many items `W`, `L`, `T`, `C`, `N`, `H`,
+//!   `M` and `R` and sessions of `F`.
 //!
 //! An outcome is the table's three lists if the last answer accepts, then trials of room: how
 //! many, each with places in text, ends and rows and the answer. A write is a mode as a byte, room,
 //! answer and, if it accepts, the list written. A find is name and answer, a show record, column
-//! and answer.
+//! and answer. A room is its places in text, ends and rows.
+//!
+//! A call of a session is a byte, the sum of 1 for a close and 2 for another room than the call
+//! before it had; this room; how many bytes it offers, if it is no close; then what it gives: a mask
+//! byte of the numbers that are not 0 among taken, text, ends, rows, short_of and closed, with 64
+//! for an answer, then these numbers, then that answer. The bytes offered are the next ones of the
+//! file; those behind its end, which are offered behind the stream's end alone, are the driver's.
 
 use crate::model::header::{find_column, show};
 use crate::model::reader::{check, read, Answer, Room};
 use crate::model::refusal;
 use crate::model::table::Table;
 use crate::model::writer::write;
+use crate::sessions::{Call, Session, NONE};
 use std::io::{self, Write};
 
 /// Lists of at most this many entries are sent entry by entry.
 const PLAIN_LIST: usize = 64;
 
-/// A check's state has this many numbers.
+/// A check's state has this many numbers, and a stream's two more.
 const STATE_NUMBERS: usize = 25;
+const STREAM_NUMBERS: usize = STATE_NUMBERS + 2;
 
 /// A file as parts, each standing a number of times.
 pub type Recipe = Vec<(Vec<u8>, usize)>;
@@ -112,13 +128,8 @@ impl<W: Write> Wire<W> {
     ) -> io::Result<()> {
         self.item(b'L')?;
         self.out.write_all(&[delimiter, leniencies])?;
-        let mut file = Vec::new();
-        self.number(recipe.len() as u64)?;
-        for (part, times) in recipe {
-            self.list(part)?;
-            self.number(*times as u64)?;
-            file.extend(part.repeat(*times));
-        }
+        self.parts(recipe)?;
+        let file = file_of(recipe);
         let mut fed = 0;
         self.number(pieces.len() as u64)?;
         for &length in pieces {
@@ -165,6 +176,10 @@ impl<W: Write> Wire<W> {
 
     pub fn hand_state(&mut self, state: &HandState) -> io::Result<()> {
         self.item(b'C')?;
+        self.hand_state_itself(state)
+    }
+
+    fn hand_state_itself(&mut self, state: &HandState) -> io::Result<()> {
         self.out.write_all(&[state.delimiter, state.leniencies])?;
         self.list(state.fed_first)?;
         self.number(state.seed)?;
@@ -175,11 +190,106 @@ impl<W: Write> Wire<W> {
     pub fn numbered_state(&mut self, numbers: &[u32], fed: &[u8], cut: usize) -> io::Result<()> {
         assert_eq!(numbers.len(), STATE_NUMBERS, "the numbers of a state");
         self.item(b'N')?;
+        self.numbered_state_itself(numbers, fed, cut)
+    }
+
+    fn numbered_state_itself(&mut self, numbers: &[u32], fed: &[u8], cut: usize) -> io::Result<()> {
         for &number in numbers {
             self.number(number.into())?;
         }
         self.list(fed)?;
         self.number(cut as u64)
+    }
+
+    /// A file by the stream, with all that comes out of it; each session is a case.
+    pub fn streamed(
+        &mut self,
+        (delimiter, leniencies): (u8, u8),
+        recipe: &Recipe,
+        out: &Table,
+        sessions: &[Session],
+    ) -> io::Result<()> {
+        self.out.write_all(&[b'F', delimiter, leniencies])?;
+        self.parts(recipe)?;
+        self.three_lists(out)?;
+        self.number(sessions.len() as u64)?;
+        for session in sessions {
+            self.count();
+            self.number(session.len() as u64)?;
+            let mut room = NONE;
+            for call in session {
+                self.call(call, room)?;
+                room = call.room;
+            }
+        }
+        Ok(())
+    }
+
+    fn call(&mut self, call: &Call, before: Room) -> io::Result<()> {
+        let closes = call.offered.is_none();
+        let changes = call.room != before;
+        self.out
+            .write_all(&[u8::from(closes) | u8::from(changes) << 1])?;
+        if changes {
+            self.room(call.room)?;
+        }
+        if let Some(offered) = call.offered {
+            self.number(offered as u64)?;
+        }
+        let given = &call.given;
+        let filled = [given.taken, given.text, given.ends, given.rows].map(|n| n as u32);
+        let mut numbers = filled.to_vec();
+        numbers.extend([given.short_of, given.closed]);
+        let answered = given.answer != Answer::default() || given.closed != 0;
+        self.masked(&numbers, u8::from(answered) << 6)?;
+        if answered {
+            self.answer(&given.answer.numbers())?;
+        }
+        Ok(())
+    }
+
+    pub fn stream_hand_state(
+        &mut self,
+        state: &HandState,
+        cut: usize,
+        room: Room,
+    ) -> io::Result<()> {
+        self.item(b'H')?;
+        self.hand_state_itself(state)?;
+        self.number(cut as u64)?;
+        self.room(room)
+    }
+
+    pub fn stream_numbered_state(
+        &mut self,
+        numbers: &[u32],
+        fed: &[u8],
+        cut: usize,
+        room: Room,
+    ) -> io::Result<()> {
+        assert_eq!(numbers.len(), STREAM_NUMBERS, "the numbers of a state");
+        self.item(b'M')?;
+        self.numbered_state_itself(numbers, fed, cut)?;
+        self.room(room)
+    }
+
+    /// Calls that keep no rule: each a piece, or none for a close, and its room.
+    pub fn unruly(
+        &mut self,
+        (delimiter, leniencies): (u8, u8),
+        calls: &[(Option<Vec<u8>>, Room)],
+    ) -> io::Result<()> {
+        self.item(b'R')?;
+        self.out.write_all(&[delimiter, leniencies])?;
+        self.number(calls.len() as u64)?;
+        for (piece, room) in calls {
+            self.out.write_all(&[u8::from(piece.is_none())])?;
+            self.room(*room)?;
+            if let Some(piece) = piece {
+                self.list(piece)?;
+            }
+        }
+        Ok(())
     }
 
     /// The trailer, without which the driver takes no wire as whole.
@@ -194,8 +304,21 @@ impl<W: Write> Wire<W> {
     }
 
     fn item(&mut self, letter: u8) -> io::Result<()> {
-        *self.counts.last_mut().expect("a section has begun") += 1;
+        self.count();
         self.out.write_all(&[letter])
+    }
+
+    fn count(&mut self) {
+        *self.counts.last_mut().expect("a section has begun") += 1;
+    }
+
+    fn parts(&mut self, recipe: &Recipe) -> io::Result<()> {
+        self.number(recipe.len() as u64)?;
+        for (part, times) in recipe {
+            self.list(part)?;
+            self.number(*times as u64)?;
+        }
+        Ok(())
     }
 
     fn outcome(
@@ -211,14 +334,17 @@ impl<W: Write> Wire<W> {
         let rooms = rooms(&answer);
         self.number(rooms.len() as u64)?;
         for room in rooms {
-            for places in [room.text, room.ends, room.rows] {
-                self.number(places as u64)?;
-            }
+            self.room(room)?;
             let (answer, table) = read(file, delimiter, leniencies, room);
             assert_eq!(table.is_some(), answer.refusal == refusal::ACCEPTED);
             self.answer(&answer.numbers())?;
         }
         Ok(())
+    }
+
+    fn room(&mut self, room: Room) -> io::Result<()> {
+        let places = [room.text, room.ends, room.rows];
+        places.iter().try_for_each(|&p| self.number(p as u64))
     }
 
     fn three_lists(&mut self, table: &Table) -> io::Result<()> {
@@ -244,7 +370,10 @@ impl<W: Write> Wire<W> {
     }
 
     fn answer(&mut self, numbers: &[u32]) -> io::Result<()> {
-        let mut mask = 0;
+        self.masked(numbers, 0)
+    }
+
+    fn masked(&mut self, numbers: &[u32], mut mask: u8) -> io::Result<()> {
         for (bit, &number) in numbers.iter().enumerate() {
             mask |= u8::from(number != 0) << bit;
         }
@@ -262,6 +391,11 @@ impl<W: Write> Wire<W> {
         }
         self.out.write_all(&[number as u8])
     }
+}
+
+pub fn file_of(recipe: &Recipe) -> Vec<u8> {
+    let parts = recipe.iter().map(|(part, times)| part.repeat(*times));
+    parts.collect::<Vec<_>>().concat()
 }
 
 /// The step and the length of the longest run of equal steps at the front of a list.

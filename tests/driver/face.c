@@ -2,7 +2,20 @@
 
 #include <stdio.h>
 
-enum { READ, READ_STRICT, START, FEED, ASK, WRITE, FIND_COLUMN, SHOW, CALLS };
+enum {
+    READ,
+    READ_STRICT,
+    START,
+    FEED,
+    ASK,
+    STREAM_START,
+    STREAM_FEED,
+    STREAM_CLOSE,
+    WRITE,
+    FIND_COLUMN,
+    SHOW,
+    CALLS
+};
 
 static uint64_t calls[CALLS];
 
@@ -74,6 +87,32 @@ void call_ask(sv_check state, uint32_t *answer)
 {
     calls[ASK]++;
     numbers_of(sv_check_ask(state), answer);
+}
+
+sv_stream call_stream_start(struct dialect dialect)
+{
+    calls[STREAM_START]++;
+    return sv_stream_start(dialect.delimiter, dialect.leniencies);
+}
+
+sv_streamed call_stream_feed(sv_stream state, const uint8_t *piece, size_t length,
+                             struct lent_table *into, struct room room)
+{
+    calls[STREAM_FEED]++;
+    uint8_t *text = lend(&into->text, room.text);
+    uint32_t *ends = lend(&into->ends, room.ends);
+    uint32_t *rows = lend(&into->rows, room.rows);
+    return sv_stream_feed(state, or_null(piece, length), length, text, room.text, ends, room.ends,
+                          rows, room.rows);
+}
+
+sv_streamed call_stream_close(sv_stream state, struct lent_table *into, struct room room)
+{
+    calls[STREAM_CLOSE]++;
+    lend(&into->text, 0);
+    uint32_t *ends = lend(&into->ends, room.ends);
+    uint32_t *rows = lend(&into->rows, room.rows);
+    return sv_stream_close(state, ends, room.ends, rows, room.rows);
 }
 
 void call_write(const struct table *table, uint8_t mode, struct lent *out, size_t room,
@@ -175,6 +214,33 @@ sv_check state_of_numbers(const uint32_t *from)
     return state;
 }
 
+void numbers_of_stream(sv_stream state, uint32_t *to)
+{
+    numbers_of_state(state.check, to);
+    to[STATE] = state.early;
+    to[STATE + 1] = state.closed;
+}
+
+sv_stream stream_of_numbers(const uint32_t *from)
+{
+    sv_stream state;
+    state.check = state_of_numbers(from);
+    state.early = from[STATE];
+    state.closed = (uint8_t)from[STATE + 1];
+    return state;
+}
+
+void numbers_of_given(sv_streamed given, uint32_t *to, uint32_t *answer)
+{
+    to[0] = (uint32_t)given.taken;
+    to[1] = (uint32_t)given.text;
+    to[2] = (uint32_t)given.ends;
+    to[3] = (uint32_t)given.rows;
+    to[4] = given.short_of;
+    to[5] = given.closed;
+    numbers_of(given.answer, answer);
+}
+
 sv_bytes shown_of(const struct table *table, const uint32_t *part, const uint8_t *stand_in,
                   size_t stand_in_length)
 {
@@ -184,8 +250,9 @@ sv_bytes shown_of(const struct table *table, const uint32_t *part, const uint8_t
 
 void print_calls(void)
 {
-    static const char *const names[CALLS] = {"sv_read",        "sv_read_strict", "sv_check_start",
-                                             "sv_check_feed",  "sv_check_ask",   "sv_write",
+    static const char *const names[CALLS] = {"sv_read",        "sv_read_strict",  "sv_check_start",
+                                             "sv_check_feed",  "sv_check_ask",    "sv_stream_start",
+                                             "sv_stream_feed", "sv_stream_close", "sv_write",
                                              "sv_find_column", "sv_show"};
     for (size_t i = 0; i < CALLS; i++)
         printf("%9lu  calls of %s\n", (unsigned long)calls[i], names[i]);

@@ -24,12 +24,6 @@ struct lent_table {
     struct lent rows;
 };
 
-struct room {
-    size_t text;
-    size_t ends;
-    size_t rows;
-};
-
 void table_open(struct table *table);
 void lent_table_open(struct lent_table *lent);
 
@@ -49,6 +43,20 @@ void call_show(const struct table *table, size_t record, size_t column, uint32_t
 enum { STATE = 25 };
 void numbers_of_state(sv_check state, uint32_t *to);
 sv_check state_of_numbers(const uint32_t *from);
+
+/* A close has no text, of which no entry is lent then. */
+sv_stream call_stream_start(struct dialect dialect);
+sv_streamed call_stream_feed(sv_stream state, const uint8_t *piece, size_t length,
+                             struct lent_table *into, struct room room);
+sv_streamed call_stream_close(sv_stream state, struct lent_table *into, struct room room);
+
+/* The numbers of a stream's state: the check's, how many blanks are out, whether it is closed. */
+enum { STREAM = STATE + 2 };
+void numbers_of_stream(sv_stream state, uint32_t *to);
+sv_stream stream_of_numbers(const uint32_t *from);
+
+/* The numbers that a call gave, and its answer's; what it took and filled is within 32 bits. */
+void numbers_of_given(sv_streamed given, uint32_t *to, uint32_t *answer);
 
 /* What the header's inline function hands out for the numbers of a part. */
 sv_bytes shown_of(const struct table *table, const uint32_t *part, const uint8_t *stand_in,

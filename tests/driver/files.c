@@ -77,11 +77,8 @@ static void take_outcome(const uint32_t *answer_for_whole)
         take_list(&expected.rows);
     }
     for (uint64_t trials = take_number(); trials > 0; trials--) {
-        struct room room;
         uint32_t answer[ANSWER], came[ANSWER];
-        room.text = take_number();
-        room.ends = take_number();
-        room.rows = take_number();
+        struct room room = take_room();
         take_answer(answer, ANSWER);
         call_read(&file, dialect, &lent, room, came);
         compare_read("sv_read", answer, came, room);
@@ -98,7 +95,7 @@ static sv_check feed(sv_check state, const uint8_t *bytes, size_t length)
     list_resize(&piece, length);
     memcpy(list_start(&piece), bytes, length);
     sv_check fed = call_feed(state, list_start(&piece), length);
-    if (memcmp(list_start(&piece), bytes, length) != 0)
+    if (!same_bytes(list_start(&piece), bytes, length))
         disagree("sv_check_feed changed the piece that it reads");
     return fed;
 }
@@ -219,29 +216,6 @@ void take_walked_file(void)
         disagree("a call changed the file that it reads");
 }
 
-/* Builds the file from its parts, in the front of its list's memory, since its length comes out
-   only then. */
-static void take_parts(void)
-{
-    static struct list part;
-    if (part.end == NULL)
-        list_open(&part, sizeof(uint8_t), MOST);
-    list_resize(&file, file.capacity);
-    uint8_t *front = list_start(&file);
-    size_t length = 0;
-    for (uint64_t parts = take_number(); parts > 0; parts--) {
-        take_list(&part);
-        for (uint64_t times = take_number(); times > 0; times--) {
-            if (part.length > file.capacity - length)
-                broken_wire("a file is too long");
-            memcpy(front + length, list_start(&part), part.length);
-            length += part.length;
-        }
-    }
-    list_resize(&file, length);
-    memmove(list_start(&file), front, length);
-}
-
 /* Feeds the pieces, with the answer so far after each; the last answer is the whole file's. */
 static void take_pieces(uint32_t *answer)
 {
@@ -264,7 +238,7 @@ void take_long_file(void)
     uint32_t answer[ANSWER] = {0};
     dialect.delimiter = take_byte();
     dialect.leniencies = take_byte();
-    take_parts();
+    take_parts(&file);
     case_begins(show_file);
     take_pieces(answer);
     take_outcome(answer);

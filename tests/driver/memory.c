@@ -28,6 +28,17 @@ static uint8_t *fresh(size_t size, uint8_t **end)
     return area;
 }
 
+bool same_bytes(const uint8_t *one, const uint8_t *other, size_t size)
+{
+    enum { SHORT = 64 };
+    if (size > SHORT)
+        return memcmp(one, other, size) == 0;
+    for (size_t i = 0; i < size; i++)
+        if (one[i] != other[i])
+            return false;
+    return true;
+}
+
 void list_open(struct list *list, size_t width, size_t most)
 {
     fresh(most * width, &list->end);
@@ -52,14 +63,21 @@ const void *or_null(const void *start, size_t length)
 
 void lent_open(struct lent *lent, const char *name, size_t width, size_t most)
 {
-    uint8_t *end;
-    lent->area = fresh(GUARD + most * width + GUARD, &end);
+    fresh(GUARD + most * width + GUARD, &lent->end);
     lent->name = name;
     lent->capacity = most;
     lent->width = width;
 }
 
-static size_t bytes_of(const struct lent *lent) { return GUARD + lent->room * lent->width + GUARD; }
+/* The guard bytes before the room, the room and those behind it. */
+static size_t bytes_of(const struct lent *lent)
+{
+    return GUARD + lent->room * lent->width + lent->behind;
+}
+
+static uint8_t *area_of(const struct lent *lent) { return lent->end - bytes_of(lent); }
+
+void *lent_start(const struct lent *lent) { return area_of(lent) + GUARD; }
 
 void *lend(struct lent *lent, size_t room)
 {
@@ -68,13 +86,14 @@ void *lend(struct lent *lent, size_t room)
     lent->room = room;
     /* One of two fillings: a byte written in many calls cannot pass for untouched in all. */
     lent->fill = coin() ? 0xC3 : 0x3C;
-    memset(lent->area, lent->fill, bytes_of(lent));
-    return (void *)or_null(lent->area + GUARD, room);
+    lent->behind = coin() ? GUARD : 0;
+    memset(area_of(lent), lent->fill, bytes_of(lent));
+    return (void *)or_null(lent_start(lent), room);
 }
 
 static bool all_filled(const uint8_t *bytes, size_t size, uint8_t fill)
 {
-    return size == 0 || (bytes[0] == fill && memcmp(bytes, bytes + 1, size - 1) == 0);
+    return size == 0 || (bytes[0] == fill && same_bytes(bytes, bytes + 1, size - 1));
 }
 
 static void find(const struct lent *lent, const uint8_t *used, size_t size,
@@ -83,22 +102,27 @@ static void find(const struct lent *lent, const uint8_t *used, size_t size,
     for (size_t i = 0; i < bytes_of(lent); i++) {
         bool is_used = i >= GUARD && i < GUARD + size;
         where->expected = is_used ? used[i - GUARD] : lent->fill;
-        where->came = lent->area[i];
+        where->came = area_of(lent)[i];
         where->entry = ((ptrdiff_t)i - GUARD) / (ptrdiff_t)lent->width;
         if (where->expected != where->came)
             return;
     }
 }
 
+bool lent_begins(const struct lent *lent, const void *used, size_t length, struct difference *where)
+{
+    const uint8_t *area = area_of(lent);
+    size_t size = length * lent->width;
+    size_t unused = GUARD + size;
+    if (all_filled(area, GUARD, lent->fill) && same_bytes(area + GUARD, used, size) &&
+        all_filled(area + unused, bytes_of(lent) - unused, lent->fill))
+        return true;
+    find(lent, used, size, where);
+    return false;
+}
+
 bool lent_holds(const struct lent *lent, const struct list *used, struct difference *where)
 {
-    const uint8_t *bytes = used == NULL ? NULL : list_start(used);
-    size_t size = used == NULL ? 0 : used->length * used->width;
-    size_t behind = GUARD + size;
-    if (all_filled(lent->area, GUARD, lent->fill) &&
-        (size == 0 || memcmp(lent->area + GUARD, bytes, size) == 0) &&
-        all_filled(lent->area + behind, bytes_of(lent) - behind, lent->fill))
-        return true;
-    find(lent, bytes, size, where);
-    return false;
+    return used == NULL ? lent_begins(lent, NULL, 0, where)
+                        : lent_begins(lent, list_start(used), used->length, where);
 }

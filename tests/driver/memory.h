@@ -23,21 +23,36 @@ void list_open(struct list *list, size_t width, size_t most);
 void list_resize(struct list *list, size_t length);
 void *list_start(const struct list *list);
 
+/* Whether bytes are the same. memcmp is slow right before a page that nobody may touch: there its
+   last load passes the end, and the processor has to undo that. */
+bool same_bytes(const uint8_t *one, const uint8_t *other, size_t size);
+
+/* The entries that are lent in each buffer of a table. */
+struct room {
+    size_t text;
+    size_t ends;
+    size_t rows;
+};
+
 /* The pointer to hand over for `length` entries at `start`: NULL in half of the cases of no
    entries. */
 const void *or_null(const void *start, size_t length);
 
-/* What the library may write: `room` entries between two rows of guard bytes. */
+/* What the library may write: `room` entries behind guard bytes, and before as many of these or, in
+   half of the cases, before a page that nobody may touch. */
 struct lent {
     const char *name;
-    uint8_t *area;
+    uint8_t *end;
     size_t capacity;
     size_t width;
     size_t room;
+    size_t behind;
     uint8_t fill;
 };
 
 void lent_open(struct lent *lent, const char *name, size_t width, size_t most);
+
+void *lent_start(const struct lent *lent);
 
 /* Fills room and guards afresh and answers the pointer to lend, by `or_null`. */
 void *lend(struct lent *lent, size_t room);
@@ -49,8 +64,12 @@ struct difference {
     uint8_t came;
 };
 
-/* Whether the buffer begins with `used` (nothing, if NULL) and all else, guards included, has
-   stayed. */
+/* Whether the buffer begins with these entries and all else, guards included, has stayed. There are
+   no more of them than there is room. */
+bool lent_begins(const struct lent *lent, const void *used, size_t length,
+                 struct difference *where);
+
+/* The same for a list, or for nothing, if it is NULL. */
 bool lent_holds(const struct lent *lent, const struct list *used, struct difference *where);
 
 #endif

@@ -68,10 +68,12 @@ static void print_numbers(const char *whose, const uint32_t *numbers, unsigned c
 {
     static const char *const answer[] = {"refusal", "line",   "column", "byte",
                                          "records", "fields", "text",   "report"};
+    static const char *const given[] = {"taken", "text", "ends", "rows", "short_of", "closed"};
     static const char *const written[] = {"refusal", "line", "column", "byte", "length"};
     static const char *const column[] = {"refusal", "column"};
     static const char *const part[] = {"found", "start", "length"};
     const char *const *names = count == ANSWER    ? answer
+                               : count == GIVEN   ? given
                                : count == WRITTEN ? written
                                : count == COLUMN  ? column
                                                   : part;

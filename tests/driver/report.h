@@ -7,7 +7,7 @@
 #include <stdint.h>
 
 /* The numbers in each of the library's answers. */
-enum { ANSWER = 8, WRITTEN = 5, COLUMN = 2, PART = 3 };
+enum { ANSWER = 8, GIVEN = 6, WRITTEN = 5, COLUMN = 2, PART = 3 };
 
 /* A section begins; its name is kept. */
 void section_begins(const uint8_t *name, size_t length);

@@ -3,6 +3,7 @@
    looked at. */
 #include "cases.h"
 #include "face.h"
+#include "hits.h"
 #include "report.h"
 #include "wire.h"
 
@@ -27,40 +28,6 @@ static void show_state(void)
     numbers_of_state(state, numbers);
     print_words("state", numbers, STATE);
     print_bytes("fed then", list_start(&fed_then), fed_then.length);
-}
-
-static uint32_t next_random(uint64_t *seed)
-{
-    *seed = *seed * 6364136223846793005u + 1442695040888963407u;
-    return (uint32_t)(*seed >> 32);
-}
-
-/* A number at the edge of a counter, or any. */
-static uint32_t word(uint64_t *seed)
-{
-    static const uint32_t edges[] = {0,        1,          4095,       4096,
-                                     4097,     16777215,   16777216,   16777217,
-                                     16777218, 0x7FFFFFFF, 0xFFFFFFFE, 0xFFFFFFFF};
-    uint32_t chosen = next_random(seed) >> 16;
-    uint32_t any = next_random(seed);
-    return chosen % 2 == 0 ? any : edges[chosen / 2 % (sizeof edges / sizeof edges[0])];
-}
-
-/* Overwrites `hits` bytes or words of the state, or all of its words if there are none. */
-static void hit(uint64_t seed, uint64_t hits)
-{
-    enum { WORD = sizeof(uint32_t), WORDS = (sizeof state + WORD - 1) / WORD };
-    uint8_t bytes[WORDS * WORD];
-    memcpy(bytes, &state, sizeof state);
-    for (uint64_t i = 0; i < (hits == 0 ? WORDS : hits); i++) {
-        size_t place = hits == 0 ? i : next_random(&seed) % WORDS;
-        uint32_t value = word(&seed);
-        if (hits != 0 && next_random(&seed) % 2 == 0)
-            bytes[place * WORD + value % WORD] = (uint8_t)next_random(&seed);
-        else
-            memcpy(bytes + place * WORD, &value, WORD);
-    }
-    memcpy(&state, bytes, sizeof state);
 }
 
 /* The state after a part of what is fed, from a copy that ends before a page that nobody may
@@ -123,7 +90,7 @@ void take_hand_state(void)
     take_list(&fed_then);
     case_begins(show_state);
     state = call_feed(call_start(dialect), list_start(&fed_first), fed_first.length);
-    hit(seed, hits);
+    hit(&state, sizeof state, seed, hits);
     ask_alike();
     feed_alike(fed_then.length / 2);
 }

@@ -2,6 +2,7 @@
 
 #include "report.h"
 
+#include <string.h>
 #include <unistd.h>
 
 /* Lists of at most this many entries come entry by entry. */
@@ -42,11 +43,23 @@ uint64_t take_number(void)
     return number;
 }
 
-void take_answer(uint32_t *into, unsigned count)
+uint8_t take_masked(uint32_t *into, unsigned count)
 {
     uint8_t mask = take_byte();
     for (unsigned i = 0; i < count; i++)
         into[i] = mask >> i & 1 ? (uint32_t)take_number() : 0;
+    return mask;
+}
+
+void take_answer(uint32_t *into, unsigned count) { take_masked(into, count); }
+
+struct room take_room(void)
+{
+    struct room room;
+    room.text = take_number();
+    room.ends = take_number();
+    room.rows = take_number();
+    return room;
 }
 
 static void put(struct list *into, size_t index, uint64_t entry)
@@ -76,4 +89,26 @@ void take_list(struct list *into)
         for (; count > 0; count--, entry += step)
             put(into, i++, entry);
     }
+}
+
+/* The file is built in the front of its list's memory, since its length comes out only then. */
+void take_parts(struct list *into)
+{
+    static struct list part;
+    if (part.end == NULL)
+        list_open(&part, sizeof(uint8_t), MOST);
+    list_resize(into, into->capacity);
+    uint8_t *front = list_start(into);
+    size_t length = 0;
+    for (uint64_t parts = take_number(); parts > 0; parts--) {
+        take_list(&part);
+        for (uint64_t times = take_number(); times > 0; times--) {
+            if (part.length > into->capacity - length)
+                broken_wire("a file is too long");
+            memcpy(front + length, list_start(&part), part.length);
+            length += part.length;
+        }
+    }
+    list_resize(into, length);
+    memmove(list_start(into), front, length);
 }

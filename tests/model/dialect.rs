@@ -29,6 +29,14 @@ impl Dialect {
         })
     }
 
+    /// The same with one more leniency.
+    pub fn with(self, leniency: u8) -> Dialect {
+        Dialect {
+            leniencies: self.leniencies | leniency,
+            ..self
+        }
+    }
+
     pub fn allows(self, leniency: u8) -> bool {
         self.leniencies & leniency != 0
     }

@@ -53,7 +53,7 @@ impl Answer {
 }
 
 /// The places in the three lent buffers.
-#[derive(Clone, Copy, Debug)]
+#[derive(Clone, Copy, Debug, PartialEq, Eq)]
 pub struct Room {
     pub text: usize,
     pub ends: usize,
@@ -114,14 +114,17 @@ fn parse(file: &[u8], delimiter: u8, leniencies: u8) -> Result<(Table, u8), Answ
     if file.len() > FILE_LIMIT {
         return Err(Answer::refused(refusal::FILE_TOO_LONG));
     }
-    let mut parser = Parser::new(file, dialect);
-    // A fault that ends the reading is among the parser's faults, like those that do not end it.
-    let _ = parser.file();
-    let first = parser.faults.iter().min_by_key(|f| (f.found, f.number));
-    match first {
+    let parser = Parser::run(file, dialect);
+    match parser.first_fault() {
         Some(fault) => Err(Answer::refused_at(fault.number, file, fault.place)),
         None => Ok((parser.table, parser.report)),
     }
+}
+
+/// Where the fault is found that refuses a file within the limit: a byte of it, or its length.
+pub fn fault_found(file: &[u8], dialect: Dialect) -> Option<usize> {
+    let parser = Parser::run(file, dialect);
+    parser.first_fault().map(|fault| fault.found)
 }
 
 /// A refusal, where it is found, and the byte that it names.
@@ -144,15 +147,23 @@ struct Parser<'a> {
 }
 
 impl<'a> Parser<'a> {
-    fn new(file: &'a [u8], dialect: Dialect) -> Parser<'a> {
-        Parser {
+    /// The parser behind the whole file. A fault that ends the reading is among its faults, like
+    /// those that do not end it.
+    fn run(file: &'a [u8], dialect: Dialect) -> Parser<'a> {
+        let mut parser = Parser {
             file,
             dialect,
             at: 0,
             faults: Vec::new(),
             table: Table::default(),
             report: 0,
-        }
+        };
+        let _ = parser.file();
+        parser
+    }
+
+    fn first_fault(&self) -> Option<&Fault> {
+        self.faults.iter().min_by_key(|f| (f.found, f.number))
     }
 
     /// One record, then any number of (break, record), then possibly one break. A record starts
