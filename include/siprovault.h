@@ -161,6 +161,54 @@ sv_check sv_check_feed(sv_check state, const uint8_t *piece, size_t piece_len);
 sv_answer sv_check_ask(sv_check state);
 
 /*
+ * A stream's state: a check's, how many of the blanks that it holds are out already, and whether a close
+ * has ended it. As a check's, it is numbers alone, and any bit pattern is a state.
+ */
+typedef struct {
+    sv_check check;
+    uint32_t early;
+    uint8_t closed;
+} sv_stream;
+
+/*
+ * What a call on a stream gives: the state for the next call; how much of the piece it took and of each
+ * buffer it filled, from the front; in short_of the buffer that was too small, 11 for text, 12 for ends
+ * and 13 for rows, the lowest number first, or 0; closed, 1 from an accepted close on. The answer is 0
+ * throughout while the stream is open; from the call on that refused it has the refusal; once closed, the
+ * totals.
+ */
+typedef struct {
+    sv_stream state;
+    size_t taken, text, ends, rows;
+    uint32_t short_of, closed;
+    sv_answer answer;
+} sv_streamed;
+
+/* Starts a stream with a dialect. */
+sv_stream sv_stream_start(uint8_t delimiter, uint8_t leniencies);
+
+/*
+ * Takes a piece and puts out what is known: contents to text, and to ends and rows what sv_read would
+ * write there, counted through the whole file. It stops early only at a refusal, or before a byte whose
+ * output does not all fit; of that output only held blanks come out, as many as fit. What it did not
+ * take opens the next piece. A field before a CR is closed by the LF behind it. A refusal comes on taking
+ * the byte that shows it, and is the check's for the bytes taken; a bad dialect is refused at once. After
+ * a refusal or an accepted close, calls take nothing, write nothing and repeat the answer. With room for
+ * one entry in each buffer, every call on a piece that is not empty takes a byte or puts out a blank.
+ */
+sv_streamed sv_stream_feed(sv_stream state, const uint8_t *piece, size_t piece_len, uint8_t *text,
+                           size_t text_len, uint32_t *ends, size_t ends_len, uint32_t *rows,
+                           size_t rows_len);
+
+/*
+ * Ends the file: the last end and row end at once, if its last record has no line break; else no room is
+ * needed. Short of room it writes nothing, and may be repeated. A refusal, of the bytes taken as one whole
+ * file, comes before lack of room.
+ */
+sv_streamed sv_stream_close(sv_stream state, uint32_t *ends, size_t ends_len, uint32_t *rows,
+                            size_t rows_len);
+
+/*
  * The answer of a write. Accepted: length is the written length, and the others are 0. Refused: refusal is
  * the number, and line, column and length are 0; byte is the index of the text byte for 3, of the field
  * in the whole table for 9 and of the record for 10, each from 0, and 0 for the others.
