@@ -1,3 +1,4 @@
 pub mod Demands
 pub mod Feeding
 pub mod Reader
+pub mod Streaming

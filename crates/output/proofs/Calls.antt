@@ -10,7 +10,7 @@ use borrow.Author.Tests.{leb-true, leb-false, le-leb, lt-leb, eqb-true, eqb-fals
 use Rattle.format.specs.Table.{Bytes, Content, Table}
 use Rattle.format.specs.Dialect.{Dialect, dialect, Valid}
 use Rattle.format.specs.Refusal.{Fields, Records}
-use Rattle.format.specs.Memory.{lengths}
+use Rattle.format.proofs.Memory.{lengths-none}
 use Rattle.steps.specs.Steps.{Form, start}
 use Rattle.steps.specs.Model.{isValid}
 use Rattle.format.proofs.Classes.{decide}
@@ -34,7 +34,7 @@ pub standing-out : {x sum m : ℕ} {f : Bytes} {e : Check} {o : Out} → Standin
 standing-out (standing w l q) = came-out (so-far (w .records) (w .fields) (at-begun (w .at))) l q
 
 pub started-standing : (x sum : ℕ) → Standing x sum [] (started x sum) 0 nothing
-unfolding outOf flatten lengths
+unfolding outOf flatten
 started-standing x sum =
     rw (started-is x sum)
     (standing {k = start} {t = []} {cs = []} {c = []} {n = 0} {g = []} {h = []}
@@ -61,7 +61,7 @@ started-standing x sum =
       even = even-none (dialect x sum);
       wide = tt;
     })
-    (omega arith) refl)
+    (omega arith) (λ i. record { text = []; ends = sym (lengths-none ℕ 0) i; rows = sym (lengths-none Content 0) i }))
 
 -- joining
 pub then-then : (o p q : Out) → then (then o p) q ≡ then o (then p q)

@@ -15,7 +15,7 @@ use Rattle.pieces.specs.Asked.{asked}
 use Rattle.output.specs.declared.Stream.{Stream}
 use Rattle.output.specs.declared.Streamed.{Streamed}
 use Rattle.output.specs.Out.{nothing}
-use Rattle.output.specs.Stream.{isOver, Room, fits, shortOf, Called, onward, streamStarted, closeDue, closed, answerOf, closedBy}
+use Rattle.output.specs.Stream.{isOver, idle, Room, fits, shortOf, Called, onward, streamStarted, closeDue, closed, answerOf, closedBy}
 use Rattle.output.specs.Promises.{Into, roomOf, Started, Closed}
 use Rattle.output.proofs.Meaning.{so-started, so-closed}
 
@@ -43,7 +43,7 @@ abbrev quiet : Stream → ℕ → Called
 quiet s n = record { taken = 0; out = nothing; short = n; state = s }
 
 module _ (s : Stream) (r : Room) where
-  closed-over : isOver s ≡ true → closed s r ≡ quiet s 0
+  pub closed-over : isOver s ≡ true → closed s r ≡ idle s
   unfolding closed
   closed-over h = rw h
 

@@ -1,28 +1,26 @@
--- A caller with room for one byte, one end and one row comes to the end: what is left falls with every call.
-use Prim.Native.Nat.{ℕ, zero, suc, _+_, _-_, _*_, _≤_, _<_, min}
+-- A caller comes to the end: what is left falls with every call.
+use Prim.Native.Nat.{ℕ, _+_, _-_, _*_, _≤_, _<_}
 use native.Mathlib.Omega.{arith}
-use mathlib.Core.Path.{_≡_, refl, sym, ap, subst, _∙_}
-use mathlib.Core.Bool.{Bool, true, false, cond, not, _&&_, _||_, true≢false}
+use mathlib.Core.Path.{_≡_, refl, sym, ap, _∙_}
+use mathlib.Core.Bool.{Bool, true, false, not, true≢false}
 use mathlib.Core.Logic.{_⊎_, inl, inr}
-use mathlib.Core.List.{List, [], _∷_}
-use lib.Dec.{eqb, leb}
-use lib.ListN.{length, drop, replicate, length-replicate}
-use borrow.Author.Tests.{le-leb, eq-eqb}
-use Rattle.format.specs.declared.Place.{Place}
+use mathlib.Core.List.{[], _∷_}
+use lib.Dec.{eqb}
+use lib.ListN.{length, drop}
+use borrow.Author.Tests.{le-leb, eqb-false}
 use Rattle.format.specs.Table.{Bytes}
-use Rattle.format.specs.Dialect.{lf, ragged, names, dialect, classOf}
-use Rattle.format.specs.House.{contentLimit}
 use Rattle.format.proofs.Classes.{decide}
-use Rattle.steps.specs.declared.Stepped.{Stepped, the-variants.Refuse, the-variants.Quiet, the-variants.Put, the-variants.Hold, the-variants.Drop, the-variants.EndField, the-variants.EndRecord}
-use Rattle.state.specs.declared.Used.{Used}
+use Rattle.steps.specs.Steps.{nothing, put, hold, drop as dropped, field-end, record-end, Act, refuse, go}
+use Rattle.steps.proofs.Acts.{Proper, step-proper}
 use Rattle.state.specs.declared.Check.{Check}
-use Rattle.places.specs.Counters.{plus, moved}
-use Rattle.state.specs.Check.{stopped, entered, opened, placed, evenly, fieldEnded, recordEnded, stepped, fed}
+use Rattle.state.specs.Check.{fed}
+use Rattle.state.proofs.Byte.{FieldEnds, RecordEnds, Does, actOf, fed-does}
 use Rattle.output.specs.declared.Stream.{Stream}
 use Rattle.output.specs.Out.{Out}
-use Rattle.output.specs.Stream.{shown, isOver, putsText, blanksDue, due, Room, fits, left, Called, onward, streamed}
+use Rattle.output.specs.Stream.{shown, isOver, putsText, due, Room, fits, left, Called, onward, streamed, leftOf}
 use Rattle.output.specs.Promises.{Awaits, nothing-early, content-next}
-use Rattle.output.proofs.Step.{Clear, clear}
+use Rattle.output.proofs.Step.{clear}
+use Rattle.output.proofs.Meaning.{shown-before}
 use Rattle.output.proofs.Progress.{stuck-some}
 
 -- what a byte does to the blanks held: at most one more, and none behind content
@@ -30,37 +28,27 @@ record Held (c r : Check) : Type 0 where
   most : r .field .held ≤ c .field .held + 1
   none : putsText c r ≡ true → r .field .held ≡ 0
 
-module _ (c : Check) where
-  no-puts : {A : Type 0} → not (leb (c .field .content) (c .field .content)) ≡ true → A
-  no-puts p = let y = le-leb (c .field .content) (c .field .content) (omega arith) in absurd (true≢false (sym p ∙ ap not y))
+held-fed : (c : Check) (b : ℕ) → shown (fed c b) ≡ false → Held c (fed c b)
+held-fed c b s = by (actOf c b) (step-proper _ _ _) (fed-does c b (clear c (shown-before c b s) .refusal))
+  where
+    -- where content stays as it was, or grows smaller, the byte is no content
+    no-puts : {A : Type 0} → fed c b .field .content ≤ c .field .content → putsText c (fed c b) ≡ true → A
+    no-puts l p = absurd (true≢false (sym p ∙ ap not (le-leb (fed c b .field .content) (c .field .content) l)))
 
-  held-step : (a : Stepped) (v : Used) (p : Place) → Held c (stepped a v p c)
-  unfolding stepped entered stopped opened fieldEnded recordEnded
-  held-step (Refuse n) v p = record { most = omega arith; none = no-puts }
-  held-step (Quiet k) v p = record { most = omega arith; none = no-puts }
-  held-step (Put k) v p = record { most = omega arith; none = λ q. refl }
-  held-step (Hold k) v p = record { most = omega arith; none = no-puts }
-  held-step (Drop k) v p = record { most = omega arith; none = no-puts }
-  held-step EndField v p =
-      decide (Held c) (leb (c .field .content) contentLimit) (λ e. record { most = omega arith; none = λ q. refl }) (λ e. record { most = omega arith; none = no-puts })
-  held-step EndRecord v p =
-      decide (Held c) (leb (c .field .content) contentLimit)
-      (λ e. decide (Held c) (names (c .leniencies) ragged || evenly c) (λ i. record { most = omega arith; none = λ q. refl }) (λ i. record { most = omega arith; none = no-puts }))
-      (λ e. record { most = omega arith; none = no-puts })
+    refused : {A : Type 0} (n : ℕ) → eqb n 0 ≡ false → fed c b .refusal ≡ n → A
+    refused n p q = absurd (eqb-false n 0 p (sym q ∙ clear (fed c b) s .refusal))
 
-  held-placed : (p : Place) (r : Check) → Held c r → Held c (placed p r)
-  unfolding placed
-  held-placed p r h = record { most = h .most; none = h .none }
-
-  held-fed : (b : ℕ) → Held c (fed c b)
-  unfolding fed
-  held-fed b =
-      held-placed (moved b (c .here)) _
-      (decide (Held c) (eqb (c .refusal) 0) (λ e. held-step _ _ _) (λ e. record { most = omega arith; none = no-puts }))
-
--- bytes not taken, twice, and held blanks that are not out
-abbrev pub leftOf : Stream → Bytes → ℕ
-leftOf s f = 2 * length f + (s .check .field .held - s .early)
+    by : (a : Act) → Proper a → Does c a (fed c b) → Held c (fed c b)
+    by (refuse n) p v = refused n p v
+    by (go j nothing) p v = record { most = omega (arith, v .held); none = no-puts (omega (arith, v .content)) }
+    by (go j put) p v = record { most = omega (arith, v .held); none = λ q. v .held }
+    by (go j hold) p v = record { most = omega (arith, v .held); none = no-puts (omega (arith, v .content)) }
+    by (go j dropped) p v = record { most = omega (arith, v .held); none = no-puts (omega (arith, v .content)) }
+    by (go j field-end) p (FieldEnds.ends v) = record { most = omega (arith, v .over .held); none = λ q. v .over .held }
+    by (go j field-end) p (FieldEnds.long l v) = refused 9 refl v
+    by (go j record-end) p (RecordEnds.ends v) = record { most = omega (arith, v .over .held); none = λ q. v .over .held }
+    by (go j record-end) p (RecordEnds.long l v) = refused 9 refl v
+    by (go j record-end) p (RecordEnds.uneven l y v) = refused 10 refl v
 
 abbrev Rests : ℕ → Bytes → Called → Type 0
 Rests n f c = (isOver (c .state) ≡ true) ⊎ (leftOf (c .state) (drop (c .taken) f) ≤ n)
@@ -77,20 +65,20 @@ rests (b ∷ f) s r z =
     (λ i.
     let o : Out = due (s .early) (s .check) b (fed (s .check) b) in
     decide (Rests (2 * length (b ∷ f) + s .check .field .held) (b ∷ f)) (fits o r)
-    (λ j. more (streamed (onward (fed (s .check) b)) f (left o r)) (rests f (onward (fed (s .check) b)) (left o r) refl))
+    (λ j. more i (streamed (onward (fed (s .check) b)) f (left o r)) (rests f (onward (fed (s .check) b)) (left o r) refl))
     (λ j. inr (omega arith))))
   where
-    more : (c : Called) → Rests (2 * length f + fed (s .check) b .field .held) f c → (isOver (c .state) ≡ true) ⊎ (leftOf (c .state) (drop (c .taken) f) ≤ 2 * length (b ∷ f) + s .check .field .held)
-    more c (inl h) = inl h
-    more c (inr h) = let y = held-fed (s .check) b .most in inr (omega arith)
+    more : shown (fed (s .check) b) ≡ false → (c : Called) → Rests (2 * length f + fed (s .check) b .field .held) f c → (isOver (c .state) ≡ true) ⊎ (leftOf (c .state) (drop (c .taken) f) ≤ 2 * length (b ∷ f) + s .check .field .held)
+    more i c (inl h) = inl h
+    more i c (inr h) = let y = held-fed (s .check) b i .most in inr (omega arith)
 
 -- With every such call that is not over, what is left falls.
 abbrev Falls : ℕ → Bytes → Called → Type 0
 Falls n f c = (isOver (c .state) ≡ true) ⊎ (leftOf (c .state) (drop (c .taken) f) < n)
 
-awaits-held : (c : Check) (m b : ℕ) (f : Bytes) → Awaits c m (b ∷ f) → fed c b .field .held + 1 ≤ 2 + (c .field .held - m)
-awaits-held c m b f nothing-early = let y = held-fed c b .most in omega arith
-awaits-held c m b f (content-next s q) = let y = held-fed c b .none q in omega arith
+awaits-held : (c : Check) (m b : ℕ) (f : Bytes) → shown (fed c b) ≡ false → Awaits c m (b ∷ f) → fed c b .field .held + 1 ≤ 2 + (c .field .held - m)
+awaits-held c m b f i nothing-early = let y = held-fed c b i .most in omega arith
+awaits-held c m b f i (content-next s q) = let y = held-fed c b i .none q in omega arith
 
 pub left-falls :
     (b : ℕ) (f : Bytes) (s : Stream) (r : Room) → Awaits (s .check) (s .early) (b ∷ f) → 1 ≤ r .text → 1 ≤ r .ends → 1 ≤ r .rows
@@ -102,13 +90,13 @@ left-falls b f s r a x y z =
     (λ i.
     let o : Out = due (s .early) (s .check) b (fed (s .check) b) in
     decide (Falls (leftOf s (b ∷ f)) (b ∷ f)) (fits o r)
-    (λ j. more (streamed (onward (fed (s .check) b)) f (left o r)) (rests f (onward (fed (s .check) b)) (left o r) refl))
+    (λ j. more i (streamed (onward (fed (s .check) b)) f (left o r)) (rests f (onward (fed (s .check) b)) (left o r) refl))
     (λ j.
     let k = stuck-some (s .early) (s .check) b (fed (s .check) b) r j x y z in
     let k₀ = k .0 in
     let k₁ = k .1 in
     inr (omega arith))))
   where
-    more : (c : Called) → Rests (2 * length f + fed (s .check) b .field .held) f c → (isOver (c .state) ≡ true) ⊎ (leftOf (c .state) (drop (c .taken) f) < leftOf s (b ∷ f))
-    more c (inl h) = inl h
-    more c (inr h) = let y = awaits-held (s .check) (s .early) b f a in inr (omega arith)
+    more : shown (fed (s .check) b) ≡ false → (c : Called) → Rests (2 * length f + fed (s .check) b .field .held) f c → (isOver (c .state) ≡ true) ⊎ (leftOf (c .state) (drop (c .taken) f) < leftOf s (b ∷ f))
+    more i c (inl h) = inl h
+    more i c (inr h) = let y = awaits-held (s .check) (s .early) b f i a in inr (omega arith)

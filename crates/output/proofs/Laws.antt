@@ -109,7 +109,7 @@ pub calls-stand : {b sum : ℕ} {f g : Bytes} {o : Out} {s : Stream} → Calls b
 calls-stand h = inv-stands (calls-inv h)
 
 -- a refusal that is shown is the answer
-shown-refused : (c : Check) → shown c ≡ true → asked c .refusal ≡ 0 → ⊥
+pub shown-refused : (c : Check) → shown c ≡ true → asked c .refusal ≡ 0 → ⊥
 shown-refused c h = asks-refused c (λ p q r. true≢false (sym h ∙ not-shown c p q r))
 
 -- the state's check is that of the bytes taken

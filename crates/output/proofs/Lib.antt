@@ -9,4 +9,5 @@ pub mod Lists
 pub mod Meaning
 pub mod Progress
 pub mod Refuse
+pub mod Sessions
 pub mod Step

@@ -71,15 +71,18 @@ came-standing {x} {sum} {m} {f} {c} {o} p q h =
     let z = stand-all x sum f [] (started x sum) nothing (started-standing x sum) (subst (λ (c : Check). shown c ≡ false) p q) in
     subst (λ (c : Check). Standing x sum f c m o) (sym p) (standing-is (z .1) h)
 
-closed-over : (s : Stream) → s .closed ≡ 1 → isOver s ≡ true
+pub closed-over : (s : Stream) → s .closed ≡ 1 → isOver s ≡ true
 closed-over s c = rw c (or-true (shown (s .check)))
 
 shown-bad : (b sum : ℕ) (s : Stream) → isValid b sum ≡ false → s .check ≡ started b sum → isOver s ≡ true
 unfolding shown
 shown-bad b sum s e p = rw (p, started-is b sum, e)
 
+pub invalid-over : (b sum : ℕ) (s : Stream) → (Valid b sum → ⊥) → s .check ≡ started b sum → isOver s ≡ true
+invalid-over b sum s v p = shown-bad b sum s (no-valid b sum v) p
+
 pub stands-inv : {b sum : ℕ} {f g : Bytes} {o : Out} {s : Stream} → Stands b sum f g o s → Inv b sum f g o s
-stands-inv {b} {sum} {s} (no-dialect v p q) = inv-over (shown-bad b sum s (no-valid b sum v) p) (λ g. no-dialect v p q)
+stands-inv {b} {sum} {s} (no-dialect v p q) = inv-over (invalid-over b sum s v p) (λ g. no-dialect v p q)
 stands-inv (going p q c o a) = inv-going p q c (came-standing p q o) a
 stands-inv {s} (refused e x i j p q o) = inv-over (let z : isOver s ≡ true = rw q in z) (λ g. refused e x i j p q o)
 stands-inv {s} (declined p q c h o) = inv-over (closed-over s c) (λ g. declined p q c h o)

@@ -28,7 +28,7 @@ use Rattle.output.specs.Out.{Out, outOf, CameOut, came-out}
 use Rattle.format.specs.SoFar.{Begun, SoFar, so-far}
 use Rattle.output.specs.Stream.{shown}
 use Rattle.format.proofs.Even.{uneven}
-use Rattle.steps.proofs.Forms.{At, at-start, at-lead, at-bare, at-quoted, at-shut, at-tail, at-cr, at-begun, heldIn, Makes, makes, Fault, behind, within}
+use Rattle.steps.proofs.Forms.{At, at-start, at-lead, at-bare, at-quoted, at-shut, at-tail, at-cr, at-begun, heldIn, Makes, makes, Fault, behind, within, at-field}
 use Rattle.format.proofs.Grow.{fields-grow, records-grow, fields-record, field-cut, fields-cut, records-cut}
 use Rattle.output.proofs.Close.{field-begun}
 use Rattle.output.proofs.Step.{Fresh, Known, Standing, standing, Clear, clear, not-shown, row-number, every-one, does}
@@ -164,14 +164,6 @@ module _
           (does x sum f e b 0 k t cs c n g h w (omega arith))
 
 -- the close
-at-field : {d : Dialect} {k : Form} {h : Bytes} {c : Content} {n : ℕ} → At d k h c n → T (over k) → Field d h c []
-unfolding padded
-at-field at-start u = Field.bare Blanks.none Bare.none refl Blanks.none
-at-field (at-lead x) u = Field.bare x Bare.none refl Blanks.none
-at-field (at-bare x k p y e) u = Field.bare x k p y
-at-field (at-shut x k) u = Field.quoted x k Blanks.none
-at-field (at-tail x k i y) u = Field.quoted x k (Blanks.more i y)
-
 fresh-not : {n : ℕ} → Fresh n [] → eqb n 0 ≡ false → ⊥
 fresh-not Fresh.none e = true≢false e
 

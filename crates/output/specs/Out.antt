@@ -2,10 +2,10 @@
 use Prim.Native.Nat.{ℕ, _≤_}
 use mathlib.Core.Path.{_≡_}
 use mathlib.Core.List.{List, [], _++_, flatten}
-use lib.ListN.{take, replicate}
-use Rattle.format.specs.Table.{Bytes, Content, Table}
+use lib.ListN.{length, take, replicate}
+use Rattle.format.specs.Table.{Bytes, Content, Table, Every}
 use Rattle.format.specs.Dialect.{Dialect}
-use Rattle.format.specs.House.{contentLimit}
+use Rattle.format.specs.House.{contentLimit, Fits}
 use Rattle.format.specs.Memory.{lengths}
 use Rattle.format.specs.SoFar.{SoFar}
 
@@ -34,3 +34,12 @@ outOf t cs c m =
 -- what is out once f has been taken, and m of the blanks held have come out before it was
 pub data CameOut (d : Dialect) (f : Bytes) (m : ℕ) (o : Out) : Type 0 where
   came-out : {n : ℕ} {t : Table} {cs : List Content} {c : Content} → SoFar d f t cs c n → m ≤ n → o ≡ outOf t cs c m → CameOut d f m o
+
+-- contents, each within the limit: all that are closed, and of an open one what is out
+pub record Contents (o : Out) : Type 0 where
+  pub whole : List Content
+  pub last : Content
+  pub text-is : o .text ≡ flatten whole ++ last
+  pub ends-are : o .ends ≡ lengths 0 whole
+  pub fit : Every Fits whole
+  pub cut : length last ≤ contentLimit

@@ -1,5 +1,5 @@
 -- What a call does to any state: how much it takes, what it puts out, the state behind it.
-use Prim.Native.Nat.{ℕ, suc, _+_, _-_, min}
+use Prim.Native.Nat.{ℕ, suc, _+_, _-_, _*_, min}
 use mathlib.Core.Bool.{Bool, cond, not, _&&_, _||_}
 use mathlib.Core.List.{List, [], _∷_, _++_}
 use lib.Dec.{eqb, leb}
@@ -141,3 +141,7 @@ answerOf s = cond (isOver s) (asked (s .check)) (refusedBy 0 nowhere)
 -- 1 from an accepted close on
 unfoldable pub closedBy : Stream → ℕ
 closedBy s = cond (eqb (s .closed) 0) 0 (cond (eqb (asked (s .check) .refusal) 0) 1 0)
+
+-- what is left to a caller with the bytes f: twice the bytes, and the blanks held that are not out
+abbrev pub leftOf : Stream → Bytes → ℕ
+leftOf s f = 2 * length f + (s .check .field .held - s .early)

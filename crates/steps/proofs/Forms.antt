@@ -42,6 +42,15 @@ at-begun (at-shut x k) = Begun.shut x k Blanks.none
 at-begun (at-tail x k e y) = Begun.shut x k (Blanks.more e y)
 at-begun (at-cr p e) = Begun.before-cr p e
 
+-- the field as it stands, where it may be over and the file ends
+pub at-field : {d : Dialect} {k : Form} {h : Bytes} {c : Content} {n : ℕ} → At d k h c n → T (over k) → Field d h c []
+unfolding padded
+at-field at-start u = Field.bare Blanks.none Bare.none refl Blanks.none
+at-field (at-lead x) u = Field.bare x Bare.none refl Blanks.none
+at-field (at-bare x k p y e) u = Field.bare x k p y
+at-field (at-shut x k) u = Field.quoted x k Blanks.none
+at-field (at-tail x k i y) u = Field.quoted x k (Blanks.more i y)
+
 -- a byte b that the table refuses is a fault in its field: found behind the field, or inside it at that very byte
 pub data Fault (d : Dialect) (i b : ℕ) (h : Bytes) (c : Content) : Type 0 where
   behind : {named : Bytes} (found : Bytes) → Field d (h ++ (b ∷ [])) c found → FieldRefusal d i (h ++ (b ∷ [])) found named → Fault d i b h c
