@@ -6,7 +6,7 @@ ghost use Prim.Native.Nat.{_+_, _-_, _≤_, min};
 ghost use mathlib.Core.Path.{_≡_};
 ghost use mathlib.Core.Bool.{_&&_};
 ghost use Rattle.format.specs.House.{contentLimit};
-ghost use Rattle.output.specs.Stream.{shown, isOver, putsText, endsField, endsRecord, byteLeft, blanksDue, answerOf, closedBy};
+ghost use Rattle.output.specs.Stream.{onward, shown, isOver, putsText, endsField, endsRecord, byteLeft, blanksDue, answerOf, closedBy};
 use format::Answer;
 use state::Check;
 
@@ -39,6 +39,17 @@ pub struct Due {
     pub byte: bool,
     pub end: bool,
     pub row: bool,
+}
+
+// The stream behind a byte, by the check's state.
+pub fn onward_from(check: Check) -> Stream
+    ensures { λ r. ⌜ r ≡ onward check ⌝ }
+{
+    Stream {
+        check,
+        early: 0,
+        closed: 0,
+    }
 }
 
 // Whether a refusal is shown: by the dialect bytes, by the length, or by a byte.

@@ -1,6 +1,6 @@
 -- `stream::feed` meets its contract.
 use Rattle.output.proofs.Meaning.{so-fed}
-use Rattle.stream.proofs.Growing.{grew-into}
+use Rattle.stream.proofs.Whole.{grew-into}
 use borrow.Author.Needs.{needs}
 use Rattle.stream.proofs.feed.Statement.{statement}
 use Rattle.stream.proofs.feed.Tie as tie

@@ -1,17 +1,22 @@
 -- `stream::flowed` meets its contract. The loop's invariant: what is to come from the start on is what has come, and then the rest.
-use Prim.Native.Nat.{_-_, _<_}
+use Prim.Native.Nat.{ℕ, _-_, _≤_, _<_}
+use mathlib.Core.Path.{_≡_}
 use native.Mathlib.Omega.{arith}
 use lib.ListN.{length}
-use Rattle.stream.specs.Walk.{restOf, Grew}
-use Rattle.stream.proofs.Growing.{grew-none, grew-then, grew-inside, grew-sizes, end-grew}
+use Rattle.taking.specs.Walk.{restOf, Grew}
+use Rattle.taking.proofs.Growing.{inside-by, grew-none, grew-then, grew-inside, grew-sizes, end-grew}
 use Rattle.stream.proofs.flowed.Statement.{statement}
 use Rattle.stream.proofs.flowed.Tie as tie
 use Rattle.stream.proofs.flowed.Reads as reads
 use Rattle.stream.proofs.flowed.Lts as lts
 use Rattle.stream.proofs.next_most.Reads as next-most-reads
-use Rattle.stream.proofs.passed.Reads as passed-reads
-use Rattle.stream.proofs.still.Reads as still-reads
-use Rattle.stream.proofs.take_byte.Reads as take-byte-reads
+use Rattle.parts.proofs.passed.Reads as passed-reads
+use Rattle.taking.proofs.still.Reads as still-reads
+use Rattle.taking.proofs.take_byte.Reads as take-byte-reads
+
+-- a byte was taken
+further : (m n : ℕ) → m ≤ n → (n ≡ m → ⊥) → m < n
+further m n l e = omega arith
 
 abbrev Inv-loop : tie.InvT-loop
 Inv-loop piece text₀ ends₀ rows₀ h₀ most₀ text ends rows h most = Grew piece h₀ text₀ ends₀ rows₀ h text ends rows (restOf h piece text ends rows)
@@ -23,39 +28,62 @@ loop-holds : tie.Need-loop-holds Inv-loop μ-loop
 loop-holds c = grew-none (record { taken-in = omega arith; text-in = omega arith; ends-in = omega arith; rows-in = omega arith })
 
 passed-requires : tie.Need-passed-requires Inv-loop μ-loop
-passed-requires c κs = grew-inside (c .before .before .before .before .before .loop .inv)
+passed-requires c κs = tt
 
 next-most-requires : tie.Need-next-most-requires Inv-loop μ-loop
 next-most-requires c κs = tt
 
 take-byte-requires : tie.Need-take-byte-requires Inv-loop μ-loop
-take-byte-requires c κs = grew-inside (c .before .before .before .before .before .before .before .before .before .before .before .before .passed .ensures)
+take-byte-requires c κs = tt
 
 same-length : tie.Need-same-length Inv-loop μ-loop
-same-length c = grew-sizes (grew-then (grew-then (c .before .before .before .before .before .before .before .before .before .before .before .before .before .before .before .before .before .before .before .before .before .before .before .before .before .before .before .before .loop .inv) (c .before .before .before .before .before .before .before .before .before .before .before .before .before .before .before .before .before .before .before .before .before .before .passed .ensures)) (c .before .before .before .before .before .before .before .before .before .take-byte .ensures .ended (c .if2 .taken))) .0
+same-length c =
+    let k = c .before .before .before .before .before .before .before .before .before in
+    let l = k .before .before .before .before .before .before .before .before .before .before .before .before .before .before .before .before .before .before .before .loop .inv in
+    let p = k .before .before .before .before .before .before .before .before .before .before .before .before .before .passed .ensures .0 (inside-by _ _ _ _ _ (grew-inside l)) in
+    let t = k .take-byte .ensures .0 (inside-by _ _ _ _ _ (grew-inside p)) in
+    grew-sizes (grew-then (grew-then l p) (t .ended (c .if2 .taken))) .0
 
 same-length-2 : tie.Need-same-length-2 Inv-loop μ-loop
-same-length-2 c = grew-sizes (grew-then (grew-then (c .before .before .before .before .before .before .before .before .before .before .before .before .before .before .before .before .before .before .before .before .before .before .before .before .before .before .before .before .loop .inv) (c .before .before .before .before .before .before .before .before .before .before .before .before .before .before .before .before .before .before .before .before .before .before .passed .ensures)) (c .before .before .before .before .before .before .before .before .before .take-byte .ensures .ended (c .if2 .taken))) .1
+same-length-2 c =
+    let k = c .before .before .before .before .before .before .before .before .before in
+    let l = k .before .before .before .before .before .before .before .before .before .before .before .before .before .before .before .before .before .before .before .loop .inv in
+    let p = k .before .before .before .before .before .before .before .before .before .before .before .before .before .passed .ensures .0 (inside-by _ _ _ _ _ (grew-inside l)) in
+    let t = k .take-byte .ensures .0 (inside-by _ _ _ _ _ (grew-inside p)) in
+    grew-sizes (grew-then (grew-then l p) (t .ended (c .if2 .taken))) .1
 
 same-length-3 : tie.Need-same-length-3 Inv-loop μ-loop
-same-length-3 c = grew-sizes (grew-then (grew-then (c .before .before .before .before .before .before .before .before .before .before .before .before .before .before .before .before .before .before .before .before .before .before .before .before .before .before .before .before .loop .inv) (c .before .before .before .before .before .before .before .before .before .before .before .before .before .before .before .before .before .before .before .before .before .before .passed .ensures)) (c .before .before .before .before .before .before .before .before .before .take-byte .ensures .ended (c .if2 .taken))) .2
+same-length-3 c =
+    let k = c .before .before .before .before .before .before .before .before .before in
+    let l = k .before .before .before .before .before .before .before .before .before .before .before .before .before .before .before .before .before .before .before .loop .inv in
+    let p = k .before .before .before .before .before .before .before .before .before .before .before .before .before .passed .ensures .0 (inside-by _ _ _ _ _ (grew-inside l)) in
+    let t = k .take-byte .ensures .0 (inside-by _ _ _ _ _ (grew-inside p)) in
+    grew-sizes (grew-then (grew-then l p) (t .ended (c .if2 .taken))) .2
 
 returns : tie.Need-returns Inv-loop μ-loop
-returns c = grew-then (grew-then (c .before .before .before .before .before .before .before .before .before .before .before .before .before .before .before .before .before .before .before .before .before .before .before .before .before .before .before .before .loop .inv) (c .before .before .before .before .before .before .before .before .before .before .before .before .before .before .before .before .before .before .before .before .before .before .passed .ensures)) (c .before .before .before .before .before .before .before .before .before .take-byte .ensures .ended (c .if2 .taken))
-
--- a byte was taken
-further : (c : tie.Else2 Inv-loop μ-loop) → c .before .before .before .before .before .before .before .before .before .before .before .before .before .before .before .before .before .before .before .before .before .before .passed .result .taken < c .before .before .before .before .before .before .before .before .before .take-byte .result .taken
-further c = omega (arith, c .before .before .before .before .before .before .before .before .before .take-byte .ensures .on, c .if2 .left)
+returns c =
+    let k = c .before .before .before .before .before .before .before .before .before in
+    let l = k .before .before .before .before .before .before .before .before .before .before .before .before .before .before .before .before .before .before .before .loop .inv in
+    let p = k .before .before .before .before .before .before .before .before .before .before .before .before .before .passed .ensures .0 (inside-by _ _ _ _ _ (grew-inside l)) in
+    let t = k .take-byte .ensures .0 (inside-by _ _ _ _ _ (grew-inside p)) in
+    grew-then (grew-then l p) (t .ended (c .if2 .taken))
 
 loop-less : tie.Need-loop-less Inv-loop μ-loop
 loop-less c =
-    let p = c .before .before .before .before .before .before .before .before .before .before .before .before .before .before .before .before .before .before .before .before .before .before .passed .ensures in
-    let t = c .before .before .before .before .before .before .before .before .before .take-byte .ensures in
-    let l = further c in
-    omega (arith, p .on, l, t .took l .inside)
+    let k = c .before .before .before .before .before .before .before .before .before in
+    let l = k .before .before .before .before .before .before .before .before .before .before .before .before .before .before .before .before .before .before .before .loop .inv in
+    let p = k .before .before .before .before .before .before .before .before .before .before .before .before .before .passed .ensures .0 (inside-by _ _ _ _ _ (grew-inside l)) in
+    let t = k .take-byte .ensures .0 (inside-by _ _ _ _ _ (grew-inside p)) in
+    let f = further _ _ (t .on) (c .if2 .left) in
+    omega (arith, p .on, f, t .took f .inside)
 
 loop-again : tie.Need-loop-again Inv-loop μ-loop
-loop-again c = grew-then (grew-then (c .before .before .before .before .before .before .before .before .before .before .before .before .before .before .before .before .before .before .before .before .before .before .before .before .before .before .before .before .loop .inv) (c .before .before .before .before .before .before .before .before .before .before .before .before .before .before .before .before .before .before .before .before .before .before .passed .ensures)) (c .before .before .before .before .before .before .before .before .before .take-byte .ensures .took (further c))
+loop-again c =
+    let k = c .before .before .before .before .before .before .before .before .before in
+    let l = k .before .before .before .before .before .before .before .before .before .before .before .before .before .before .before .before .before .before .before .loop .inv in
+    let p = k .before .before .before .before .before .before .before .before .before .before .before .before .before .passed .ensures .0 (inside-by _ _ _ _ _ (grew-inside l)) in
+    let t = k .take-byte .ensures .0 (inside-by _ _ _ _ _ (grew-inside p)) in
+    grew-then (grew-then l p) (t .took (further _ _ (t .on) (c .if2 .left)))
 
 still-requires : tie.Need-still-requires Inv-loop μ-loop
 still-requires c κs = tt

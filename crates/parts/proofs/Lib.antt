@@ -1,0 +1,4 @@
+pub mod Passing
+pub mod Raised
+pub mod Room
+pub mod Window

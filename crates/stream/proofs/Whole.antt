@@ -1,0 +1,70 @@
+-- A whole call.
+use Prim.Native.Nat.{ℕ, zero, suc, _+_, _-_, _≤_, _<_, min}
+use native.Mathlib.Numerals.{add-one}
+use native.Mathlib.Omega.{arith}
+use mathlib.Core.Path.{_≡_, refl, sym, ap, subst, _∙_}
+use mathlib.Core.Bool.{Bool, true, false, cond, _&&_}
+use lib.Dec.{leb}
+use mathlib.Core.List.{List, [], _∷_, _++_, append-nil}
+use lib.ListN.{length, drop, getD, replicate, length-append, length-replicate, drop-of-length-le}
+use lib.Seq.{sets, drop-cons, length-sets}
+use Rattle.format.specs.Table.{Bytes}
+use Rattle.format.specs.Filling.{over}
+use Rattle.format.proofs.Filling.{begin, sets-append}
+use Rattle.state.specs.declared.Check.{Check}
+use Rattle.state.specs.Check.{fed}
+use Rattle.output.specs.declared.Stream.{Stream}
+use Rattle.output.specs.Out.{Out, nothing, then}
+use Rattle.output.specs.Stream.{shown, isOver, putsText, endsField, endsRecord, byteLeft, when, blanksDue, due, Room, fits, left, shortOf, Called, idle, onward, showing, stuck, taking, streamed, closedBy, answerOf}
+use Rattle.output.specs.Promises.{Into, roomOf}
+use Rattle.output.specs.declared.Streamed.{Streamed}
+use Rattle.output.proofs.Step.{then-nothing}
+use Rattle.output.proofs.Calls.{then-then}
+use Rattle.output.specs.declared.Due.{Due}
+use Rattle.output.proofs.Bytewise.{due-is, short-is, streamed-none, streamed-over, streamed-shown, streamed-taken, streamed-stuck}
+use Rattle.taking.specs.declared.Flow.{Flow}
+use Rattle.taking.specs.Walk.{roomAt, restOf, stopAt, adding, Inside, Put, Grew, Took, one}
+
+-- all of a call
+abbrev begun : Stream → Flow
+begun s = record { state = s; taken = 0; text = 0; ends = 0; rows = 0; short = 0 }
+
+filled : {A : Type 0} {buf new buf′ : List A} {at : ℕ} → Put buf 0 new buf′ at → (at ≡ length new) × (buf′ ≡ over new buf)
+filled {new = new} w = (w .at-is ∙ omega arith, w .buf-is ∙ begin new (omega (arith, w .room)) .fills)
+
+module _ {piece text : Bytes} {ends rows : List ℕ} {s : Stream} {q : Flow} {text′ ends′ rows′ : List ℕ} where
+  -- it took what it has come over, and put out what it has written
+  whole-is :
+      (g : Grew piece (begun s) text ends rows q text′ ends′ rows′ (stopAt q))
+      → streamed s piece (roomOf text ends rows) ≡ record { taken = q .taken; out = g .new; short = q .short; state = q .state }
+  whole-is g =
+      let x : length text ≡ length text - 0 = omega arith in
+      let y : length ends ≡ length ends - 0 = omega arith in
+      let z : length rows ≡ length rows - 0 = omega arith in
+      let t : q .taken - 0 + 0 ≡ q .taken = omega arith in
+      (λ i. streamed s piece (record { text = x i; ends = y i; rows = z i }))
+      ∙ (g .model ∙ λ i. record { taken = t i; out = then-nothing (g .new) i; short = q .short; state = q .state })
+
+  pub grew-into :
+      Grew piece (begun s) text ends rows q text′ ends′ rows′ (stopAt q) → {r : Streamed}
+      → r ≡ record { state = q .state; taken = q .taken; text = q .text; ends = q .ends; rows = q .rows; short = q .short; closed = closedBy (q .state); answer = answerOf (q .state) }
+      → Into (streamed s piece (roomOf text ends rows)) text ends rows r text′ ends′ rows′
+  grew-into g {r} e =
+      let t = filled (g .text-on) in
+      let u = filled (g .ends-on) in
+      let v = filled (g .rows-on) in
+      subst (λ (c : Called). Into c text ends rows r text′ ends′ rows′) (sym (whole-is g))
+      (rw e
+      (record {
+        state = refl;
+        taken = refl;
+        short = refl;
+        closed = refl;
+        answer = refl;
+        text-count = t .0;
+        ends-count = u .0;
+        rows-count = v .0;
+        text-is = t .1;
+        ends-is = u .1;
+        rows-is = v .1;
+      }))
