@@ -1,7 +1,8 @@
-//! The ordinary check and ours must agree before they are timed.
+//! The ordinary check and ours, our read and our stream must agree before they are timed.
 
 use crate::ordinary::{self, Answer};
 use crate::ours::{self, Buffers};
+use crate::PIECE;
 
 /// Files with the answer that the rules give: refusal, line, column, byte, records, fields, text, report.
 const FILES: [(&[u8], [u32; 8]); 20] = [
@@ -56,11 +57,16 @@ pub fn on_small_files() -> String {
         on(file, &mut to);
     }
     let number = FILES.len() + files.len();
-    format!("Both checks and our read agree on {number} small files.")
+    let ours = if ours::STREAMS {
+        ", our read and our stream"
+    } else {
+        " and our read"
+    };
+    format!("Both checks{ours} agree on {number} small files.")
 }
 
-/// The answer of the ordinary check, if our check and our read give the same. Of a table that is read
-/// the last entries are compared too.
+/// The answer of the ordinary check, if our check, our read and our stream give the same. Of a table that
+/// is read the last entries are compared too, and of one that is streamed how much of it came.
 pub fn on(file: &[u8], to: &mut Buffers) -> Answer {
     let answer = ordinary::check(file);
     let told = ours::told(answer);
@@ -71,6 +77,13 @@ pub fn on(file: &[u8], to: &mut Buffers) -> Answer {
         let end = to.ends[answer.fields as usize - 1];
         let last = (answer.fields, answer.text);
         assert_eq!((row, end), last, "last entries: {}", shown(file));
+    }
+    if ours::STREAMS {
+        let (streamed, came) = ours::stream(file, PIECE, to);
+        assert_eq!(streamed, told, "our stream: {}", shown(file));
+        let all = (answer.records, answer.fields, answer.text);
+        let whole = came == all || answer.refusal != 0;
+        assert!(whole, "our stream, {came:?}: {}", shown(file));
     }
     answer
 }

@@ -1,5 +1,6 @@
-//! Times our check and our whole read beside an ordinary check and csv-core's whole read. The answers
-//! are compared first. A time is the least of several turns, with each job once in each turn.
+//! Times our check and our whole read beside an ordinary check and csv-core's whole read, and our stream
+//! beside our read. The answers are compared first. A time is the least of several turns, with each job
+//! once in each turn.
 
 mod agree;
 mod inputs;
@@ -22,18 +23,28 @@ const ORDINARY: usize = 0;
 const CHECK: usize = 1;
 const CSV_CORE: usize = 2;
 const READ: usize = 3;
-const JOBS: [&str; 4] = ["ordinary check", "our check", "csv-core read", "our read"];
+const STREAM: usize = 4;
+const JOBS: [&str; 5] = [
+    "ordinary check",
+    "our check",
+    "csv-core read",
+    "our read",
+    "our stream",
+];
+
+/// The stream's pieces, and its room for bytes of text, for ends and for rows.
+const PIECE: usize = 65_536;
 
 /// Seconds of each job on an input; infinite where there is no such job.
 struct Times {
     input: &'static str,
     bytes: usize,
-    least: [f64; 4],
+    least: [f64; JOBS.len()],
 }
 
 /// The bars: an input, two jobs, and the most that the ratio of their times should be. The first is the
 /// ordinary check's own: the ratios to it count only if it is at least half as fast as csv-core.
-const BARS: [(&str, usize, usize, f64); 11] = [
+const BARS: [(&str, usize, usize, f64); 13] = [
     (inputs::SHORT, ORDINARY, CSV_CORE, 2.0),
     (inputs::SHORT, CHECK, ORDINARY, 0.65),
     (inputs::REMARKS, CHECK, ORDINARY, 0.75),
@@ -45,6 +56,8 @@ const BARS: [(&str, usize, usize, f64); 11] = [
     (inputs::REMARKS, READ, CSV_CORE, 1.7),
     (inputs::BROKEN, READ, CSV_CORE, 1.7),
     (inputs::LINES, READ, CSV_CORE, 1.7),
+    (inputs::SHORT, STREAM, READ, 1.5),
+    (inputs::REMARKS, STREAM, READ, 1.5),
 ];
 
 fn main() {
@@ -55,15 +68,21 @@ fn main() {
     println!(
         "16 MiB each, the least of {TURNS} turns or more in {seconds} s, buffers cleared before."
     );
-    println!("Ratio: of our check to the ordinary check, of our read to csv-core's.");
+    println!("The stream has pieces of {PIECE} bytes, and as much room in text, ends and rows.");
+    println!("Ratio: of our check to the ordinary check, of our read to csv-core's,");
+    println!("of our stream to our read.");
     println!(
         "{:<28}{:<16}{:>8}{:>8}{:>8}",
         "input", "job", "ms", "GB/s", "ratio"
     );
     let all: Vec<Times> = INPUTS.iter().map(|input| timed(input, seconds)).collect();
     for size in [1, 64, 4_096] {
-        pieces(size);
+        pieces("our check", size, |file| ours::check_in_pieces(file, size));
     }
+    let mut room = Buffers::cleared(64, 16);
+    pieces("our stream, room 64, 16 and 16", 64, |file| {
+        ours::STREAMS.then(|| ours::stream(file, 64, &mut room).0)
+    });
     for (input, job, to, most) in BARS {
         bar(&all, input, job, to, most);
     }
@@ -78,21 +97,25 @@ fn timed(input: &Input, seconds: u64) -> Times {
     let told = ours::told(answer);
     let counts = (answer.records, answer.fields, answer.text);
     let mut to = Buffers::cleared(LIMIT, LIMIT / 4);
+    let mut room = Buffers::cleared(PIECE, PIECE);
     let (mut text, mut ends) = (vec![1; LIMIT], vec![1; 4_096]);
-    let mut times = Times {
-        input: input.name,
-        bytes: file.len(),
-        least: [f64::INFINITY; 4],
-    };
+    let mut times = Times::none(input.name, file.len());
     let (mut turns, start) = (0, Instant::now());
     while turns < TURNS || start.elapsed().as_secs() < seconds {
         turns += 1;
         assert_eq!(times.of(ORDINARY, || ordinary::check(&file)), answer);
         assert_eq!(times.of(CHECK, || ours::check(&file)), told);
         assert_eq!(times.of(READ, || ours::read(&file, &mut to)), told);
-        if other::THERE && input.name != inputs::FAULT {
+        if input.name == inputs::FAULT {
+            continue; // csv-core takes it, and the stream is at its end
+        }
+        if other::THERE {
             let counted = times.of(CSV_CORE, || other::read(&file, &mut text, &mut ends));
             assert!(counted == counts || answer.refusal != 0, "{counted:?}");
+        }
+        if ours::STREAMS {
+            let given = times.of(STREAM, || ours::stream(&file, PIECE, &mut room));
+            assert_eq!(given.0, told);
         }
     }
     times.print();
@@ -100,6 +123,15 @@ fn timed(input: &Input, seconds: u64) -> Times {
 }
 
 impl Times {
+    fn none(input: &'static str, bytes: usize) -> Times {
+        let least = [f64::INFINITY; JOBS.len()];
+        Times {
+            input,
+            bytes,
+            least,
+        }
+    }
+
     fn of<T>(&mut self, job: usize, run: impl FnOnce() -> T) -> T {
         let (seconds, result) = clocked(run);
         self.least[job] = self.least[job].min(seconds);
@@ -114,6 +146,7 @@ impl Times {
                 ORDINARY if self.input == inputs::FAULT => (String::new(), None),
                 CHECK if self.input != inputs::FAULT => (speed, self.ratio(CHECK, ORDINARY)),
                 READ => (speed, self.ratio(READ, CSV_CORE)),
+                STREAM => (speed, self.ratio(STREAM, READ)),
                 _ => (speed, None),
             };
             let ratio = ratio.map_or(String::new(), |r| format!("{r:.2}"));
@@ -139,21 +172,21 @@ fn clocked<T>(run: impl FnOnce() -> T) -> (f64, T) {
     (start.elapsed().as_secs_f64(), result)
 }
 
-/// Times our check fed in small pieces, where it can be.
-fn pieces(size: usize) {
+/// Times our check or our stream fed in small pieces, where it can be.
+fn pieces(job: &str, size: usize, mut run: impl FnMut(&[u8]) -> Option<ours::Told>) {
     let file = inputs::short_rows(LIMIT / 16);
     let whole = Some(ours::check(&file));
     let mut least = f64::INFINITY;
     for _ in 0..3 * TURNS {
-        let (seconds, told) = clocked(|| ours::check_in_pieces(&file, size));
+        let (seconds, told) = clocked(|| run(&file));
         if told.is_none() {
             return;
         }
-        assert_eq!(told, whole, "pieces of {size}");
+        assert_eq!(told, whole, "{job}, pieces of {size}");
         least = least.min(seconds);
     }
     let each = least * 1e9 / file.len() as f64;
-    println!("our check, 1 MiB of short rows in pieces of {size}: {each:.2} ns a byte");
+    println!("{job}, 1 MiB of short rows in pieces of {size}: {each:.2} ns a byte");
 }
 
 fn bar(all: &[Times], input: &str, job: usize, to: usize, most: f64) {

@@ -31,7 +31,8 @@ impl Buffers {
 mod face {
     use super::Buffers;
     use crate::ordinary::Answer;
-    use crate::siprovault::{self, Check};
+    use crate::other::Counts;
+    use crate::siprovault::{self, Check, Stream};
 
     /// What can be compared: the whole answer.
     pub type Told = siprovault::Answer;
@@ -65,12 +66,37 @@ mod face {
     pub fn read(file: &[u8], to: &mut Buffers) -> Told {
         siprovault::read_strict(file, &mut to.text, &mut to.ends, &mut to.rows)
     }
+
+    pub const STREAMS: bool = true;
+
+    /// The stream in pieces of so many bytes, each call's output over the last one's: its answer, and the
+    /// numbers of rows, ends and bytes of text that came.
+    pub fn stream(file: &[u8], size: usize, to: &mut Buffers) -> (Told, Counts) {
+        let mut state = Stream::start(siprovault::COMMA, 0);
+        let (mut at, mut rows, mut ends, mut text) = (0, 0, 0, 0);
+        while at < file.len() {
+            let piece = &file[at..file.len().min(at + size)];
+            let given = state.feed(piece, &mut to.text, &mut to.ends, &mut to.rows);
+            rows += given.rows as u32;
+            ends += given.ends as u32;
+            text += given.text as u32;
+            if given.answer.refusal != siprovault::ACCEPTED {
+                return (given.answer, (rows, ends, text));
+            }
+            state = given.state;
+            at += given.taken;
+        }
+        let last = state.close(&mut to.ends, &mut to.rows);
+        let came = (rows + last.rows as u32, ends + last.ends as u32, text);
+        (last.answer, came)
+    }
 }
 
 #[cfg(not(target_arch = "x86_64"))]
 mod face {
     use super::Buffers;
     use crate::ordinary::Answer;
+    use crate::other::Counts;
 
     /// What can be compared: the number of records.
     pub type Told = u32;
@@ -99,6 +125,12 @@ mod face {
 
     pub fn check_in_pieces(_file: &[u8], _size: usize) -> Option<Told> {
         None
+    }
+
+    pub const STREAMS: bool = false;
+
+    pub fn stream(_file: &[u8], _size: usize, _to: &mut Buffers) -> (Told, Counts) {
+        (0, (0, 0, 0))
     }
 
     pub fn read(file: &[u8], to: &mut Buffers) -> Told {

@@ -69,6 +69,29 @@ pub struct Check {
     numbers: [u32; 16],
 }
 
+/// A stream's state.
+#[repr(C)]
+#[derive(Clone, Copy)]
+pub struct Stream {
+    check: Check,
+    early: u32,
+    closed: u8,
+}
+
+/// What a call on a stream gives.
+#[repr(C)]
+#[derive(Clone, Copy)]
+pub struct Streamed {
+    pub state: Stream,
+    pub taken: usize,
+    pub text: usize,
+    pub ends: usize,
+    pub rows: usize,
+    pub short_of: u32,
+    pub closed: u32,
+    pub answer: Answer,
+}
+
 /// The answer of a write.
 #[repr(C)]
 #[derive(Clone, Copy, Debug, PartialEq, Eq)]
@@ -155,6 +178,49 @@ impl Check {
     /// The answer for all bytes so far as one whole file.
     pub fn ask(self) -> Answer {
         unsafe { c::sv_check_ask(self) }
+    }
+}
+
+impl Stream {
+    /// Starts a stream with a dialect.
+    pub fn start(delimiter: u8, leniencies: u8) -> Stream {
+        unsafe { c::sv_stream_start(delimiter, leniencies) }
+    }
+
+    /// Takes a piece and puts out what is known. What it did not take opens the next piece.
+    pub fn feed(
+        self,
+        piece: &[u8],
+        text: &mut [u8],
+        ends: &mut [u32],
+        rows: &mut [u32],
+    ) -> Streamed {
+        unsafe {
+            c::sv_stream_feed(
+                self,
+                piece.as_ptr(),
+                piece.len(),
+                text.as_mut_ptr(),
+                text.len(),
+                ends.as_mut_ptr(),
+                ends.len(),
+                rows.as_mut_ptr(),
+                rows.len(),
+            )
+        }
+    }
+
+    /// Ends the file. Short of room it writes nothing, and may be repeated.
+    pub fn close(self, ends: &mut [u32], rows: &mut [u32]) -> Streamed {
+        unsafe {
+            c::sv_stream_close(
+                self,
+                ends.as_mut_ptr(),
+                ends.len(),
+                rows.as_mut_ptr(),
+                rows.len(),
+            )
+        }
     }
 }
 
@@ -245,7 +311,7 @@ impl<'a> Table<'a> {
 }
 
 mod c {
-    use super::{Answer, Check, Column, Part, Written};
+    use super::{Answer, Check, Column, Part, Stream, Streamed, Written};
 
     extern "C" {
         pub fn sv_read(
@@ -275,6 +341,28 @@ mod c {
         pub fn sv_check_start(delimiter: u8, leniencies: u8) -> Check;
         pub fn sv_check_feed(state: Check, piece: *const u8, piece_len: usize) -> Check;
         pub fn sv_check_ask(state: Check) -> Answer;
+
+        pub fn sv_stream_start(delimiter: u8, leniencies: u8) -> Stream;
+
+        pub fn sv_stream_feed(
+            state: Stream,
+            piece: *const u8,
+            piece_len: usize,
+            text: *mut u8,
+            text_len: usize,
+            ends: *mut u32,
+            ends_len: usize,
+            rows: *mut u32,
+            rows_len: usize,
+        ) -> Streamed;
+
+        pub fn sv_stream_close(
+            state: Stream,
+            ends: *mut u32,
+            ends_len: usize,
+            rows: *mut u32,
+            rows_len: usize,
+        ) -> Streamed;
 
         pub fn sv_write(
             text: *const u8,

@@ -1,6 +1,6 @@
 /*
  * The header's names against the library: for each refusal a call that is refused so, for each delimiter,
- * leniency and mode one to which it makes a difference. C99 and C++.
+ * leniency and mode one to which it makes a difference, and what the stream's calls give. C99 and C++.
  */
 #include "siprovault.h"
 
@@ -100,10 +100,43 @@ static void dialects(void)
     is("SV_FULL", written_in(SV_FULL, "a", 64).length, 5);
 }
 
+static sv_streamed streamed(uint8_t delimiter, const char *bytes, size_t text_len, size_t ends_len,
+                            size_t rows_len)
+{
+    sv_stream start = sv_stream_start(delimiter, 0);
+    return sv_stream_feed(start, (const uint8_t *)bytes, strlen(bytes), text, text_len, ends, ends_len,
+                          rows, rows_len);
+}
+
+static void streams(void)
+{
+    is("sv_stream, at most 256 bytes", sizeof(sv_stream) <= 256, 1);
+    sv_streamed fed = streamed(SV_COMMA, "a,b", 2, 1, 0);
+    is("taken", fed.taken, 3);
+    is("text", fed.text, 2);
+    is("ends", fed.ends, 1);
+    is("rows", fed.rows, 0);
+    is("short_of", fed.short_of, 0);
+    is("closed, of an open stream", fed.closed, 0);
+    is("short_of, at a close", sv_stream_close(fed.state, ends, 0, rows, 1).short_of,
+       SV_NO_ROOM_IN_ENDS);
+    sv_streamed end = sv_stream_close(fed.state, ends + 1, 1, rows, 1);
+    is("closed", end.closed, 1);
+    is("ends, at the close", ends[0] + 16 * ends[1], 1 + 16 * 2);
+    is("rows, at the close", rows[0], 2);
+    is("answer", end.answer.records + 16 * end.answer.fields, 1 + 16 * 2);
+    is("short_of, text", streamed(SV_COMMA, "a", 0, 1, 1).short_of, SV_NO_ROOM_IN_TEXT);
+    is("short_of, ends", streamed(SV_COMMA, ",", 1, 0, 1).short_of, SV_NO_ROOM_IN_ENDS);
+    is("short_of, rows", streamed(SV_COMMA, "\r\n", 1, 1, 0).short_of, SV_NO_ROOM_IN_ROWS);
+    is("answer, of a bad dialect", streamed('.', "", 1, 1, 1).answer.refusal,
+       SV_UNKNOWN_DIALECT_OR_MODE);
+}
+
 int main(void)
 {
     refusals();
     dialects();
+    streams();
     if (wrong == 0)
         printf("the header's names are the library's numbers\n");
     return wrong == 0 ? 0 : 1;

@@ -38,19 +38,25 @@ kit_link() {
     "$kit_own/bin/rattle-link" --target $kit_target --toolchain "$kit_tools" -o "$kit_program" "$@"
 }
 
-# kit_tell PROGRAM COMMAND WORDS: the command, with the words that run the program behind its own. As rt
-# does, it keeps settings for the emulator away from it.
-kit_tell() (
-    kit_program=$1
-    shift
+# kit_alone: as rt does, keeps settings for the emulator away from it
+kit_alone() {
     for word in $(env | sed -n 's/^\(QEMU_[A-Za-z0-9_]*\)=.*/\1/p'); do
         unset "$word"
     done
+}
+
+# kit_tell PROGRAM COMMAND WORDS: the command, with the words that run the program behind its own
+kit_tell() (
+    kit_program=$1
+    shift
+    kit_alone
     exec "$@" ${kit_emulator:+"$kit_emulator"} "$kit_tools/lib/ld-linux-x86-64.so.2" \
         --library-path "$kit_tools/lib" "$kit_program"
 )
 
-# kit_run PROGRAM: with no command before them, the words run the program themselves
-kit_run() {
-    kit_tell "$1"
-}
+# kit_run PROGRAM WORDS: the program, given the words
+kit_run() (
+    kit_alone
+    exec ${kit_emulator:+"$kit_emulator"} "$kit_tools/lib/ld-linux-x86-64.so.2" \
+        --library-path "$kit_tools/lib" "$@"
+)
