@@ -1,6 +1,6 @@
 // Many bytes of a piece, taken by a stream at once: they go through the check, and if that shows no refusal
 // the second walk of the reader writes what they put out.
-ghost use Prim.Native.Nat.{ℕ, _-_, _≤_, _<_};
+ghost use Prim.Native.Nat.{ℕ, _-_, _≤_, _<_, min};
 ghost use mathlib.Core.Path.{_≡_};
 ghost use mathlib.Core.Bool.{true, false};
 ghost use mathlib.Core.List.{List};
@@ -71,7 +71,7 @@ fn pass_beyond(p: Flow, most: usize, piece: &[u8]) -> Flow
     ensures { λ r. ⌜ ((text : List ℕ) (ends rows : List ℕ) → Inside p (now (piece .entry)) text ends rows → Grew (now (piece .entry)) p text ends rows r text ends rows (restOf r (now (piece .entry)) text ends rows)) ⌝ }
 {
     let from = p.taken;
-    let to = from + taking::smaller(most, piece.len() - from);
+    let to = from + smaller(most, piece.len() - from);
     let e = pieces::feed(p.state.check, &piece[from..to]);
     if output::is_shown(e) {
         return p;
@@ -100,12 +100,12 @@ fn part(p: Flow, most: usize, piece: usize, text: usize, ends: usize, rows: usiz
     }
     let held = c.field.held as usize;
     let limit = format::FILE_LIMIT as usize;
-    let n = taking::smaller(most, taking::minus(piece, p.taken));
-    let n = taking::smaller(n, taking::minus(taking::minus(text, p.text), held));
-    let n = taking::smaller(n, taking::minus(ends, p.ends));
-    let n = taking::smaller(n, taking::minus(rows, p.rows));
-    let n = taking::smaller(n, taking::minus(limit, t + held));
-    taking::smaller(n, taking::minus(limit, f))
+    let n = smaller(most, minus(piece, p.taken));
+    let n = smaller(n, minus(minus(text, p.text), held));
+    let n = smaller(n, minus(ends, p.ends));
+    let n = smaller(n, minus(rows, p.rows));
+    let n = smaller(n, minus(limit, t + held));
+    smaller(n, minus(limit, f))
 }
 
 // Takes a part of the piece at once, unless it shows a refusal or brings content over the limit.
@@ -199,3 +199,15 @@ fn raise(entries: &mut [u32], from: usize, to: usize, n: u32)
     }
 }
 
+// A difference, at least 0; the smaller of two numbers.
+fn minus(a: usize, b: usize) -> usize
+    ensures { λ r. ⌜ r ≡ a - b ⌝ }
+{
+    if b < a { a - b } else { 0 }
+}
+
+fn smaller(a: usize, b: usize) -> usize
+    ensures { λ r. ⌜ r ≡ min a b ⌝ }
+{
+    if a < b { a } else { b }
+}

@@ -55,7 +55,7 @@ fn flowed(s: Stream, piece: &[u8], text: &mut [u8], ends: &mut [u32], rows: &mut
         }
         h = q;
     }
-    taking::still(h, 0)
+    taking::take_byte(h, piece, text, ends, rows)
 }
 
 // Parts are of no more bytes than these, and of some.

@@ -331,3 +331,12 @@ one-grew {text = text} {ends} {rows} {p = p} {x₁ = x₁} {x₂} g h a b c =
     let e = same-front (g .new .ends) (h .new .ends) (x₁ .out .ends) (x₂ .out .ends) (ap (λ (y : Called). y .out .ends) m) (omega (arith, g .ends-on .at-is, h .ends-on .at-is)) in
     let r = same-front (g .new .rows) (h .new .rows) (x₁ .out .rows) (x₂ .out .rows) (ap (λ (y : Called). y .out .rows) m) (omega (arith, g .rows-on .at-is, h .rows-on .at-is)) in
     (g .text-on .buf-is ∙ ap (sets text (p .text)) t ∙ sym (h .text-on .buf-is), g .ends-on .buf-is ∙ ap (sets ends (p .ends)) e ∙ sym (h .ends-on .buf-is), g .rows-on .buf-is ∙ ap (sets rows (p .rows)) r ∙ sym (h .rows-on .buf-is))
+
+-- where the piece ends the call does
+pub took-end :
+    {piece : Bytes} {text ends rows text′ ends′ rows′ : List ℕ} {p q : Flow} → Took piece p text ends rows q text′ ends′ rows′ → length piece ≤ p .taken → q .taken ≡ p .taken
+took-end {p = p} {q} w l = by (leb (q .taken) (p .taken)) refl
+  where
+    by : (y : Bool) → leb (q .taken) (p .taken) ≡ y → q .taken ≡ p .taken
+    by true e = omega (arith, leb-true (q .taken) (p .taken) e, w .on)
+    by false e = let m = leb-false (q .taken) (p .taken) e in absurd (omega (arith, w .took m .inside))

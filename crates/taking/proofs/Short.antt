@@ -37,4 +37,3 @@ module _ (p : Flow) (d : Due) (text ends rows : ℕ) where
   pub short-none : TextIn → EndsIn → one (d .row) ≤ rows - p .rows → 0 ≡ short
   short-none h i j =
       rw (le-leb (d .blanks + one (d .byte)) (text - p .text) h, le-leb (one (d .end)) (ends - p .ends) i, le-leb (one (d .row)) (rows - p .rows) j)
-

@@ -72,7 +72,7 @@ fn take_inside(p: Flow, piece: &[u8], text: &mut [u8], ends: &mut [u32], rows: &
 }
 
 // The call ends here.
-pub fn still(p: Flow, short: u32) -> Flow
+fn still(p: Flow, short: u32) -> Flow
     ensures { λ r. ⌜ r ≡ record { state = p .state; taken = p .taken; text = p .text; ends = p .ends; rows = p .rows; short = short } ⌝ }
 {
     let state = p.state;
@@ -203,15 +203,14 @@ fn put_entry(entries: &mut [u32], at: usize, some: bool, n: u32) -> usize
 }
 
 // A difference, at least 0; the smaller of two numbers.
-pub fn minus(a: usize, b: usize) -> usize
+fn minus(a: usize, b: usize) -> usize
     ensures { λ r. ⌜ r ≡ a - b ⌝ }
 {
     if b < a { a - b } else { 0 }
 }
 
-pub fn smaller(a: usize, b: usize) -> usize
+fn smaller(a: usize, b: usize) -> usize
     ensures { λ r. ⌜ r ≡ min a b ⌝ }
 {
     if a < b { a } else { b }
 }
-

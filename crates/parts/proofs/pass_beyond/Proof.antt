@@ -10,7 +10,7 @@ use Rattle.parts.proofs.pass_beyond.Lts as lts
 use Rattle.output.proofs.is_shown.Reads as is-shown-reads
 use Rattle.pieces.proofs.feed.Reads as feed-reads
 use Rattle.output.proofs.onward_from.Reads as onward-from-reads
-use Rattle.taking.proofs.smaller.Reads as smaller-reads
+use Rattle.parts.proofs.smaller.Reads as smaller-reads
 
 sub-smaller : tie.Need-sub-smaller
 sub-smaller c = search needs

@@ -4,14 +4,13 @@ use mathlib.Core.Path.{_≡_}
 use native.Mathlib.Omega.{arith}
 use lib.ListN.{length}
 use Rattle.taking.specs.Walk.{restOf, Grew}
-use Rattle.taking.proofs.Growing.{inside-by, grew-none, grew-then, grew-inside, grew-sizes, end-grew}
+use Rattle.taking.proofs.Growing.{inside-by, grew-none, grew-then, grew-inside, grew-sizes, took-end}
 use Rattle.stream.proofs.flowed.Statement.{statement}
 use Rattle.stream.proofs.flowed.Tie as tie
 use Rattle.stream.proofs.flowed.Reads as reads
 use Rattle.stream.proofs.flowed.Lts as lts
 use Rattle.stream.proofs.next_most.Reads as next-most-reads
 use Rattle.parts.proofs.passed.Reads as passed-reads
-use Rattle.taking.proofs.still.Reads as still-reads
 use Rattle.taking.proofs.take_byte.Reads as take-byte-reads
 
 -- a byte was taken
@@ -85,22 +84,36 @@ loop-again c =
     let t = k .take-byte .ensures .0 (inside-by _ _ _ _ _ (grew-inside p)) in
     grew-then (grew-then l p) (t .took (further _ _ (t .on) (c .if2 .left)))
 
-still-requires : tie.Need-still-requires Inv-loop μ-loop
-still-requires c κs = tt
+take-byte-requires-2 : tie.Need-take-byte-requires-2 Inv-loop μ-loop
+take-byte-requires-2 c κs = tt
 
 same-length-4 : tie.Need-same-length-4 Inv-loop μ-loop
-same-length-4 c = grew-sizes (c .before .before .before .loop .inv) .0
+same-length-4 c =
+    let g = c .before .before .before .before .before .before .before .before .before .before .before .before .loop .inv in
+    let t = c .before .before .before .before .before .before .take-byte2 .ensures .0 (inside-by _ _ _ _ _ (grew-inside g)) in
+    let e = grew-then g (t .ended (took-end t (c .before .before .before .before .before .before .before .before .before .before .if1 .left))) in
+    grew-sizes e .0
 
 same-length-5 : tie.Need-same-length-5 Inv-loop μ-loop
-same-length-5 c = grew-sizes (c .before .before .before .loop .inv) .1
+same-length-5 c =
+    let g = c .before .before .before .before .before .before .before .before .before .before .before .before .loop .inv in
+    let t = c .before .before .before .before .before .before .take-byte2 .ensures .0 (inside-by _ _ _ _ _ (grew-inside g)) in
+    let e = grew-then g (t .ended (took-end t (c .before .before .before .before .before .before .before .before .before .before .if1 .left))) in
+    grew-sizes e .1
 
 same-length-6 : tie.Need-same-length-6 Inv-loop μ-loop
-same-length-6 c = grew-sizes (c .before .before .before .loop .inv) .2
+same-length-6 c =
+    let g = c .before .before .before .before .before .before .before .before .before .before .before .before .loop .inv in
+    let t = c .before .before .before .before .before .before .take-byte2 .ensures .0 (inside-by _ _ _ _ _ (grew-inside g)) in
+    let e = grew-then g (t .ended (took-end t (c .before .before .before .before .before .before .before .before .before .before .if1 .left))) in
+    grew-sizes e .2
 
 returns-2 : tie.Need-returns-2 Inv-loop μ-loop
 returns-2 c =
-    let g = c .before .before .before .loop .inv in
-    rw (c .still .ensures) (grew-then g (end-grew (grew-inside g) (c .before .if1 .left)))
+    let g = c .before .before .before .before .before .before .before .before .before .before .before .before .loop .inv in
+    let t = c .before .before .before .before .before .before .take-byte2 .ensures .0 (inside-by _ _ _ _ _ (grew-inside g)) in
+    let e = grew-then g (t .ended (took-end t (c .before .before .before .before .before .before .before .before .before .before .if1 .left))) in
+    e
 
 pub flowed-spec : {M : Type 1} → statement M
 flowed-spec =
@@ -118,7 +131,7 @@ flowed-spec =
     returns
     loop-less
     loop-again
-    still-requires
+    take-byte-requires-2
     same-length-4
     same-length-5
     same-length-6
