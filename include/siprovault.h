@@ -5,7 +5,8 @@
  * No call keeps anything, allocates anything or fails by a crash: any bytes, any dialect, any buffers.
  * Bad input is refused by number. A refused call leaves every buffer as it was, byte for byte; an
  * accepted one leaves alone what stands behind the part that it used. Equal arguments give equal
- * answers.
+ * answers. Of a stream alone contents come out before the whole file is judged: keep nothing of them
+ * until its close is accepted.
  *
  * What C cannot promise for its caller:
  * - A pointer with a length above 0 points to that many entries, which nobody else changes during the
@@ -162,7 +163,7 @@ sv_answer sv_check_ask(sv_check state);
 
 /*
  * A stream's state: a check's, how many of the blanks that it holds are out already, and whether a close
- * has ended it. As a check's, it is numbers alone, and any bit pattern is a state.
+ * has ended it. As a check's, it is numbers alone, any bit pattern is a state, and the fields are no promise.
  */
 typedef struct {
     sv_check check;
