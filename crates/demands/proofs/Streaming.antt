@@ -2,7 +2,7 @@
 use Prim.Native.Nat.{ℕ, _≤_, _<_}
 use native.Mathlib.Omega.{arith}
 use mathlib.Core.Path.{_≡_, refl, sym, ap, subst, _∙_}
-use mathlib.Core.Bool.{true, false}
+use mathlib.Core.Bool.{true}
 use mathlib.Core.Logic.{_⊎_, inl, inr}
 use mathlib.Core.List.{List, [], _∷_, _++_}
 use lib.ListN.{length, take, drop}
@@ -13,9 +13,9 @@ use Rattle.format.specs.Answer.{refusedBy}
 use Rattle.pieces.specs.Answers.{Answers}
 use Rattle.output.specs.declared.Stream.{Stream}
 use Rattle.output.specs.declared.Streamed.{Streamed}
-use Rattle.output.specs.Out.{Out, nothing, then}
+use Rattle.output.specs.Out.{Out, then}
 use Rattle.output.specs.Stream.{isOver, streamed, Called, idle, answerOf, closedBy, leftOf}
-use Rattle.output.specs.Promises.{Awaits, Stands, Into, Started, Fed, Closed, roomOf}
+use Rattle.output.specs.Promises.{Awaits, Stands, Into, Fed, roomOf}
 use Rattle.output.proofs.Bytewise.{streamed-over}
 use Rattle.output.proofs.Closing.{closed-over}
 use Rattle.output.proofs.Laws.{answer-is-check}

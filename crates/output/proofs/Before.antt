@@ -1,19 +1,18 @@
 -- What came out before a refusal.
-use Prim.Native.Nat.{ℕ, zero, suc, _+_, _≤_, _<_, min}
+use Prim.Native.Nat.{ℕ, _+_, _≤_, _<_}
 use native.Mathlib.Omega.{arith}
 use mathlib.Core.Path.{_≡_, refl, sym, ap, subst, _∙_}
-use mathlib.Core.Bool.{Bool, true, false, true≢false}
-use mathlib.Core.List.{List, [], _∷_, _++_}
+use mathlib.Core.Bool.{true, false, true≢false}
+use mathlib.Core.List.{[], _∷_, _++_}
 use lib.ListN.{length, length-append}
 use Rattle.format.specs.declared.Answer.{Answer}
 use Rattle.format.specs.Table.{Bytes}
-use Rattle.format.specs.Dialect.{Dialect, dialect, Valid}
+use Rattle.format.specs.Dialect.{dialect, Valid}
 use Rattle.format.specs.House.{fileLimit}
 use Rattle.format.specs.Refusal.{Refusal}
-use Rattle.format.specs.Reading.{Accepted, Refused, in-file}
+use Rattle.format.specs.Reading.{in-file}
 use Rattle.steps.proofs.Theorems.{never-both}
 use Rattle.state.specs.declared.Check.{Check}
-use Rattle.places.specs.Counters.{counterLimit}
 use Rattle.state.specs.Check.{started, fed, fedAll}
 use Rattle.pieces.specs.Asked.{asked}
 use Rattle.pieces.specs.Answers.{Answers}
@@ -21,10 +20,10 @@ use Rattle.pieces.proofs.Stands.{one-answer}
 use Rattle.state.proofs.Moves.{started-byte}
 use Rattle.format.proofs.Numbers.{refused-number}
 use Rattle.output.specs.declared.Stream.{Stream}
-use Rattle.output.specs.Out.{Out, outOf, CameOut}
+use Rattle.output.specs.Out.{Out, CameOut}
 use Rattle.output.specs.Stream.{shown, isOver}
 use Rattle.output.specs.Promises.{Stands, no-dialect, going, refused, declined, accepted}
-use Rattle.output.proofs.Step.{Standing, standing, Clear, clear}
+use Rattle.output.proofs.Step.{Standing, standing, clear}
 use Rattle.output.proofs.Calls.{fed-one, going-over}
 use Rattle.output.proofs.Laws.{check-answers}
 use Rattle.output.proofs.Meaning.{came-standing}

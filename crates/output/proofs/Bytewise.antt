@@ -1,18 +1,18 @@
 -- A call, one byte after the other; and what the code of a byte computes.
 use Prim.Native.Nat.{ℕ, _+_, _-_, _≤_, min}
 use native.Mathlib.Omega.{arith}
-use mathlib.Core.Path.{_≡_, refl, sym, ap, _∙_}
+use mathlib.Core.Path.{_≡_, refl}
 use mathlib.Core.Bool.{Bool, true, false, cond, _&&_}
-use mathlib.Core.List.{List, [], _∷_, _++_}
+use mathlib.Core.List.{[], _∷_, _++_}
 use lib.Dec.{leb, ltb}
-use lib.ListN.{length, replicate, length-append, length-replicate}
+use lib.ListN.{length, replicate}
 use borrow.Author.Tests.{leb-true, leb-false, lt-ltb, le-ltb}
 use Rattle.format.specs.Table.{Bytes}
 use Rattle.state.specs.declared.Check.{Check}
 use Rattle.state.specs.Check.{fed}
 use Rattle.output.specs.declared.Stream.{Stream}
-use Rattle.output.specs.Out.{Out, nothing}
-use Rattle.output.specs.Stream.{shown, isOver, putsText, endsField, endsRecord, byteLeft, when, blanksDue, due, Room, fits, left, shortOf, Called, idle, onward, showing, stuck, taking, streamed}
+use Rattle.output.specs.Out.{Out}
+use Rattle.output.specs.Stream.{shown, isOver, putsText, endsField, endsRecord, byteLeft, when, blanksDue, due, Room, fits, left, shortOf, idle, onward, showing, stuck, taking, streamed}
 
 module _ (s : Stream) (r : Room) where
   pub streamed-none : streamed s [] r ≡ idle s

@@ -1,33 +1,29 @@
 -- Calls one after the other: what came out, joined, is what the grammar says of the bytes taken.
-use Prim.Native.Nat.{ℕ, zero, suc, _+_, _-_, _≤_, min}
+use Prim.Native.Nat.{ℕ, _+_, _-_, _≤_, min}
 use native.Mathlib.Omega.{arith}
 use mathlib.Core.Path.{_≡_, refl, sym, ap, subst, _∙_}
-use mathlib.Core.Bool.{Bool, true, false, cond, not, _&&_, _||_, or-true, true≢false}
-use mathlib.Core.List.{List, [], _∷_, _++_, append-assoc, append-nil, flatten}
-use lib.Dec.{eqb, leb}
-use lib.ListN.{length, take, drop, replicate}
-use borrow.Author.Tests.{leb-true, leb-false, le-leb, lt-leb, eqb-true, eqb-false}
-use Rattle.format.specs.Table.{Bytes, Content, Table}
-use Rattle.format.specs.Dialect.{Dialect, dialect, Valid}
+use mathlib.Core.Bool.{Bool, true, false, not, true≢false}
+use mathlib.Core.List.{[], _∷_, _++_, append-assoc, append-nil, flatten}
+use lib.ListN.{take, drop, replicate}
+use Rattle.format.specs.Table.{Bytes, Content}
+use Rattle.format.specs.Dialect.{dialect}
 use Rattle.format.specs.Refusal.{Fields, Records}
 use Rattle.format.proofs.Memory.{lengths-none}
-use Rattle.steps.specs.Steps.{Form, start}
-use Rattle.steps.specs.Model.{isValid}
+use Rattle.steps.specs.Steps.{start}
 use Rattle.format.proofs.Classes.{decide}
 use Rattle.state.specs.declared.Check.{Check}
 use Rattle.state.specs.Check.{started, fed, fedAll}
-use Rattle.pieces.specs.Asked.{asked}
 use Rattle.state.proofs.Jumps.{fed-join}
 use Rattle.state.proofs.Moves.{fed-none, fed-cons}
 use Rattle.state.proofs.Parts.{started-is}
 use Rattle.output.specs.declared.Stream.{Stream}
 use Rattle.output.specs.Out.{Out, nothing, then, outOf, CameOut, came-out}
-use Rattle.format.specs.SoFar.{SoFar, so-far}
-use Rattle.output.specs.Stream.{shown, isOver, putsText, blanksDue, due, Room, fits, left, shortOf, Called, idle, onward, showing, stuck, taking, streamStarted, streamed}
-use Rattle.output.specs.Promises.{Awaits, nothing-early, content-next, Stands, no-dialect, going, refused, declined, accepted}
+use Rattle.format.specs.SoFar.{so-far}
+use Rattle.output.specs.Stream.{shown, isOver, putsText, blanksDue, due, Room, fits, left, Called, idle, onward, stuck, taking, streamed}
+use Rattle.output.specs.Promises.{Awaits, nothing-early, content-next, Stands, going, refused}
 use Rattle.format.proofs.Even.{even-none}
-use Rattle.steps.proofs.Forms.{at-start, at-begun, heldIn}
-use Rattle.output.proofs.Step.{Fresh, Known, Standing, standing, then-nothing, stand-byte, stand-blanks}
+use Rattle.steps.proofs.Forms.{at-start, at-begun}
+use Rattle.output.proofs.Step.{Fresh, Standing, standing, then-nothing, stand-byte, stand-blanks}
 
 -- what stands is out
 pub standing-out : {x sum m : ℕ} {f : Bytes} {e : Check} {o : Out} → Standing x sum f e m o → CameOut (dialect x sum) f m o

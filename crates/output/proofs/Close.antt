@@ -1,29 +1,27 @@
 -- The close: both last ends at once, and then all of the table is out.
-use Prim.Native.Nat.{ℕ, zero, suc, _+_, _-_, _≤_, min}
+use Prim.Native.Nat.{ℕ, _+_, _-_, _≤_}
 use native.Mathlib.Omega.{arith}
 use mathlib.Core.Path.{_≡_, refl, sym, ap, subst, _∙_}
-use mathlib.Core.Bool.{Bool, true, false, cond, not, _&&_, _||_, true≢false}
+use mathlib.Core.Bool.{Bool, true, false, cond, not, true≢false}
 use mathlib.Core.List.{List, [], _∷_, _++_, append-assoc, append-nil, flatten}
-use lib.Dec.{eqb, leb}
+use lib.Dec.{eqb}
 use lib.ListN.{length, take, length-append}
 use lib.Seq.{take-all}
-use borrow.Author.Tests.{leb-true, leb-false, le-leb, lt-leb, eqb-true, eqb-false, eq-eqb}
+use borrow.Author.Tests.{eqb-false}
 use Rattle.format.specs.declared.Answer.{Answer}
 use Rattle.format.specs.Table.{Bytes, Content, Table, Ending, Every}
-use Rattle.format.specs.Dialect.{ragged, names, Dialect, dialect, Valid}
-use Rattle.format.specs.Grammar.{padded, Blanks, Bare, Quoted, Field, Record, Break, File}
-use Rattle.format.specs.House.{LastBreak, EmptyFile, empty, contentLimit, fileLimit, Fits, Allowed}
+use Rattle.format.specs.Dialect.{Dialect, dialect}
+use Rattle.format.specs.Grammar.{Blanks, Bare, Field, Record, Break, File}
+use Rattle.format.specs.House.{empty, contentLimit, Fits}
 use Rattle.format.specs.Refusal.{Fields, Records}
 use Rattle.format.specs.Memory.{lengths, textOf, endsOf, rowsOf}
-use Rattle.format.specs.Reading.{Reading, nothing, something, Accepted, Refused}
-use Rattle.format.proofs.Classes.{decide}
-use Rattle.steps.specs.Model.{isValid}
+use Rattle.format.specs.Reading.{Reading, nothing, something}
 use Rattle.state.specs.declared.Check.{Check}
 use Rattle.places.specs.Counters.{plus}
 use Rattle.pieces.specs.Asked.{asked}
 use Rattle.pieces.proofs.Asking.{LastEnds, Asks, asks}
 use Rattle.format.specs.Answer.{acceptedAs}
-use Rattle.output.specs.Out.{Out, then, outOf, CameOut, came-out}
+use Rattle.output.specs.Out.{Out, then, outOf}
 use Rattle.format.specs.SoFar.{Begun, SoFar, so-far}
 use Rattle.output.specs.Stream.{shown, closeDue}
 use Rattle.output.specs.Promises.{wholeOut}
@@ -31,7 +29,7 @@ use Rattle.format.proofs.Grow.{blanks-join}
 use Rattle.format.proofs.Memory.{flatten-one, lengths-one}
 use Rattle.steps.proofs.Forms.{at-begun, heldIn}
 use Rattle.steps.proofs.One.{one-so-far}
-use Rattle.output.proofs.Step.{Fresh, none, some, Known, Standing, standing, Clear, clear, then-nothing}
+use Rattle.output.proofs.Step.{Standing, standing, Clear, clear, then-nothing}
 
 -- a whole record without its line break, as far as it has come
 record Last (d : Dialect) (f : Bytes) (cs : List Content) : Type 0 where

@@ -1,25 +1,23 @@
 -- The laws for a caller.
-use Prim.Native.Nat.{ℕ, zero, suc, _+_, _-_, _≤_, _<_, min}
+use Prim.Native.Nat.{ℕ, _+_, _-_}
 use native.Mathlib.Omega.{arith}
 use mathlib.Core.Path.{_≡_, refl, sym, ap, subst, _∙_}
-use mathlib.Core.Bool.{Bool, true, false, cond, not, _&&_, _||_, or-true, true≢false}
-use mathlib.Core.Logic.{_⊎_, inl, inr}
-use mathlib.Core.List.{List, [], _∷_, _++_, append-assoc, append-nil}
-use lib.Dec.{T, eqb, leb}
-use lib.ListN.{length, take, drop, replicate}
-use borrow.Author.Tests.{leb-true, leb-false, le-leb, lt-leb, eqb-true, eqb-false, eq-eqb, ne-eqb}
+use mathlib.Core.Bool.{Bool, true, false, cond, or-true, true≢false}
+use mathlib.Core.List.{[], _++_}
+use lib.Dec.{eqb}
+use lib.ListN.{take, drop}
+use borrow.Author.Tests.{ne-eqb}
 use Rattle.format.specs.declared.Answer.{Answer}
-use Rattle.format.specs.Table.{Bytes, Content, Table}
-use Rattle.format.specs.Dialect.{Dialect, dialect, delimits, Valid}
-use Rattle.format.specs.House.{fileLimit}
+use Rattle.format.specs.Table.{Bytes, Table}
+use Rattle.format.specs.Dialect.{dialect}
 use Rattle.format.specs.Answer.{acceptedAs, refusedBy}
-use Rattle.format.specs.Reading.{Accepted, Refused}
+use Rattle.format.specs.Reading.{Accepted}
 use Rattle.format.proofs.Classes.{decide}
 use Rattle.steps.specs.Model.{isValid}
 use Rattle.steps.proofs.Verdicts.{valid-yes}
 use Rattle.steps.proofs.Theorems.{one-accepted, never-both}
 use Rattle.state.specs.declared.Check.{Check}
-use Rattle.state.specs.Check.{started, fed, fedAll}
+use Rattle.state.specs.Check.{started, fedAll}
 use Rattle.pieces.specs.Asked.{asked}
 use Rattle.pieces.proofs.Asking.{asks-refused}
 use Rattle.format.proofs.Numbers.{refused-number}
@@ -28,10 +26,10 @@ use Rattle.pieces.proofs.Stands.{started-stands, fed-stands, stands-answers, on
 use Rattle.state.proofs.Moves.{fed-none}
 use Rattle.state.proofs.Parts.{started-is}
 use Rattle.output.specs.declared.Stream.{Stream}
-use Rattle.output.specs.Out.{Out, nothing, then, outOf, CameOut, came-out}
-use Rattle.output.specs.Stream.{shown, isOver, Room, fits, Called, idle, streamStarted, streamed, closeDue, closed, answerOf}
-use Rattle.output.specs.Promises.{Awaits, nothing-early, content-next, wholeOut, Stands, no-dialect, going, refused, declined, accepted, Calls}
-use Rattle.output.proofs.Step.{Standing, standing, Clear, clear, not-shown, then-nothing}
+use Rattle.output.specs.Out.{Out, nothing, then, CameOut}
+use Rattle.output.specs.Stream.{shown, isOver, Room, fits, Called, streamStarted, closeDue, closed, answerOf}
+use Rattle.output.specs.Promises.{Awaits, nothing-early, wholeOut, Stands, no-dialect, going, refused, declined, accepted, Calls}
+use Rattle.output.proofs.Step.{Standing, not-shown, then-nothing}
 use Rattle.output.proofs.Close.{closing-out}
 use Rattle.output.proofs.Calls.{going-over, standing-out, started-standing, Inv, inv-going, inv-over, inv-stands, awaits-none, feed-inv}
 

@@ -2,11 +2,11 @@
 use Prim.Native.Nat.{ℕ, zero, suc, _+_, _-_, _≤_, min}
 use native.Mathlib.Omega.{arith}
 use mathlib.Core.Path.{_≡_, refl, sym, ap, _∙_}
-use mathlib.Core.Bool.{Bool, true, false, cond, _&&_}
-use mathlib.Core.List.{List, [], _∷_, _++_, append-assoc, append-nil}
+use mathlib.Core.Bool.{Bool, true, false, cond}
+use mathlib.Core.List.{List, [], _∷_, _++_, append-assoc}
 use lib.Dec.{leb}
-use lib.ListN.{length, take, replicate, length-append, length-replicate, replicate-append-replicate}
-use lib.Seq.{take-all, take-nil}
+use lib.ListN.{length, take, replicate, length-replicate, replicate-append-replicate}
+use lib.Seq.{take-all}
 use borrow.Author.Tests.{leb-true, leb-false}
 
 module _ {A : Type 0} where

@@ -1,15 +1,13 @@
 -- A state that stands for a dialect, bytes taken and what is out goes to such a state; and any two outcomes of a call coincide.
-use Prim.Native.Nat.{ℕ, zero, suc, _+_, _≤_, _<_, min}
+use Prim.Native.Nat.{ℕ, _+_}
 use native.Mathlib.Omega.{arith}
-use mathlib.Core.Path.{_≡_, refl, sym, ap, subst, _∙_}
-use mathlib.Core.Bool.{Bool, true, false, cond, not, _&&_, _||_, or-true, true≢false}
+use mathlib.Core.Path.{_≡_, refl, sym, subst, _∙_}
+use mathlib.Core.Bool.{Bool, true, false, or-true}
 use mathlib.Core.List.{List, [], _∷_, _++_, append-assoc, append-nil}
-use lib.Dec.{T, eqb, leb}
-use lib.ListN.{length, take, drop, replicate}
-use borrow.Author.Tests.{leb-true, leb-false, le-leb, lt-leb, eqb-true, eqb-false, eq-eqb, ne-eqb}
-use Rattle.format.specs.Table.{Bytes, Content, Table}
-use Rattle.format.specs.Dialect.{Dialect, dialect, delimits, Valid}
-use Rattle.format.specs.House.{fileLimit}
+use lib.Dec.{eqb}
+use borrow.Author.Tests.{eqb-true, eqb-false}
+use Rattle.format.specs.Table.{Bytes}
+use Rattle.format.specs.Dialect.{dialect, Valid}
 use Rattle.steps.specs.Model.{isValid}
 use Rattle.state.specs.declared.Check.{Check}
 use Rattle.places.specs.Counters.{moved}
@@ -19,16 +17,16 @@ use Rattle.state.proofs.Moves.{placed-refuses, fed-none, fed-cons, fed-byte, fe
 use Rattle.state.proofs.Parts.{started-is}
 use Rattle.steps.proofs.Verdicts.{no-valid}
 use Rattle.output.specs.declared.Stream.{Stream}
-use Rattle.output.specs.Out.{Out, nothing, then, outOf, CameOut, came-out}
+use Rattle.output.specs.Out.{Out, nothing, outOf, CameOut, came-out}
 use Rattle.format.specs.SoFar.{so-far}
-use Rattle.output.specs.Stream.{shown, isOver, Room, Called, streamStarted, streamed, closed}
+use Rattle.output.specs.Stream.{shown, isOver, Called, streamStarted, streamed, closed}
 use Rattle.output.specs.declared.Streamed.{Streamed}
-use Rattle.output.specs.Promises.{Into, roomOf, Awaits, Stands, no-dialect, going, refused, declined, accepted, Started, Fed, Closed}
-use Rattle.steps.proofs.Forms.{at-begun, heldIn}
-use Rattle.output.proofs.Step.{Standing, standing, Clear, clear, then-nothing, stand-byte, not-shown}
+use Rattle.output.specs.Promises.{Into, roomOf, Stands, no-dialect, going, refused, declined, accepted, Started, Fed, Closed}
+use Rattle.steps.proofs.Forms.{at-begun}
+use Rattle.output.proofs.Step.{Standing, standing, clear, stand-byte, not-shown}
 use Rattle.steps.proofs.One.{one-so-far}
 use Rattle.output.proofs.Calls.{started-standing, Inv, inv-going, inv-over, inv-stands, feed-inv}
-use Rattle.output.proofs.Laws.{start-inv, close-inv, over-start}
+use Rattle.output.proofs.Laws.{start-inv, close-inv}
 
 -- what is shown stays
 fed-refusal : (c : Check) (b : ℕ) → (c .refusal ≡ 0 → ⊥) → fed c b .refusal ≡ c .refusal

@@ -1,13 +1,13 @@
 -- A caller comes to the end: with room for one byte of text, one end and one row, every call on a piece that is not empty goes on.
-use Prim.Native.Nat.{ℕ, zero, suc, _+_, _-_, _≤_, _<_, min}
+use Prim.Native.Nat.{ℕ, suc, _+_, _-_, _≤_, _<_, min}
 use native.Mathlib.Omega.{arith}
-use mathlib.Core.Path.{_≡_, refl, sym, ap, subst, _∙_}
-use mathlib.Core.Bool.{Bool, true, false, cond, not, _&&_, _||_}
+use mathlib.Core.Path.{_≡_, refl, sym, ap}
+use mathlib.Core.Bool.{Bool, true, false, cond, not, _&&_}
 use mathlib.Core.Logic.{_⊎_, inl, inr}
-use mathlib.Core.List.{List, [], _∷_, _++_}
-use lib.Dec.{eqb, leb}
+use mathlib.Core.List.{[], _∷_}
+use lib.Dec.{leb}
 use lib.ListN.{length, replicate, length-append, length-replicate}
-use borrow.Author.Tests.{leb-true, leb-false, le-leb, lt-leb}
+use borrow.Author.Tests.{leb-true, leb-false, le-leb}
 use Rattle.format.specs.Table.{Bytes}
 use Rattle.format.specs.House.{contentLimit}
 use Rattle.format.proofs.Classes.{decide}
@@ -15,7 +15,7 @@ use Rattle.state.specs.declared.Check.{Check}
 use Rattle.state.specs.Check.{fed}
 use Rattle.output.specs.declared.Stream.{Stream}
 use Rattle.output.specs.Out.{Out}
-use Rattle.output.specs.Stream.{shown, isOver, putsText, endsField, endsRecord, byteLeft, when, blanksDue, due, Room, fits, left, shortOf, Called, onward, showing, taking, stuck, streamed}
+use Rattle.output.specs.Stream.{shown, isOver, putsText, endsField, endsRecord, byteLeft, when, blanksDue, due, Room, fits, left, shortOf, Called, onward, taking, streamed}
 
 -- a byte is taken, or a held blank that was not out comes out
 pub record BlankOut (s : Stream) (c : Called) : Type 0 where

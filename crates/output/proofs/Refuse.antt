@@ -1,18 +1,16 @@
 -- Before a refusal: what is out is what stands before the byte where the fault is found.
-use Prim.Native.Nat.{ℕ, zero, suc, _+_, _≤_, _<_}
+use Prim.Native.Nat.{ℕ, _+_, _≤_, _<_}
 use native.Mathlib.Omega.{arith}
 use mathlib.Core.Path.{_≡_, refl, sym, ap, subst, _∙_}
-use mathlib.Core.Bool.{Bool, true, false, cond, not, _&&_, _||_, true≢false}
-use mathlib.Core.List.{List, [], _∷_, _++_, append-assoc, append-nil, append-cancel-right, flatten}
+use mathlib.Core.Bool.{true, false, _||_, true≢false}
+use mathlib.Core.List.{List, [], _∷_, _++_, append-nil, append-cancel-right, flatten}
 use lib.Dec.{T, eqb, leb}
 use lib.ListN.{length, length-append}
-use borrow.Author.Tests.{leb-true, leb-false, le-leb, lt-leb, eqb-true, eqb-false, eq-eqb, ne-eqb}
 use Rattle.format.specs.Table.{Bytes, Content, Table, Every}
-use Rattle.format.specs.Dialect.{lf, ragged, names, Dialect, dialect, delimiter, classOf}
-use Rattle.format.specs.Grammar.{padded, Blanks, Bare, Open, Field, Record, Break}
-use Rattle.format.specs.House.{widthOf, EqualRows, contentLimit, fileLimit, Fits, Allowed}
-use Rattle.format.specs.Refusal.{LineEnd, FieldEnd, delimited, lined, FieldRefusal, refusal-6, refusal-8, refusal-9, Fields, Records, Refusal, in-field, refusal-10}
-use Rattle.format.proofs.Classes.{decide}
+use Rattle.format.specs.Dialect.{lf, ragged, names, Dialect, dialect, classOf}
+use Rattle.format.specs.Grammar.{Field, Record, Break}
+use Rattle.format.specs.House.{widthOf, contentLimit, fileLimit, Fits, Allowed}
+use Rattle.format.specs.Refusal.{LineEnd, FieldEnd, delimited, lined, refusal-6, refusal-8, refusal-9, Fields, Records, Refusal, in-field, refusal-10}
 use Rattle.steps.specs.Steps.{Form, start, lead, bare, quoted, shut, tail, cr, nothing, put, hold, drop, field-end, record-end, Act, refuse, go, stepOf}
 use Rattle.steps.specs.Model.{isValid}
 use Rattle.steps.specs.Numbers.{formNumber}
@@ -25,13 +23,13 @@ use Rattle.state.proofs.Byte.{FieldEnds, RecordEnds, Does}
 use Rattle.pieces.specs.Asked.{asked}
 use Rattle.pieces.proofs.Asking.{LastEnds, Asks, asks}
 use Rattle.output.specs.Out.{Out, outOf, CameOut, came-out}
-use Rattle.format.specs.SoFar.{Begun, SoFar, so-far}
+use Rattle.format.specs.SoFar.{so-far}
 use Rattle.output.specs.Stream.{shown}
 use Rattle.format.proofs.Even.{uneven}
-use Rattle.steps.proofs.Forms.{At, at-start, at-lead, at-bare, at-quoted, at-shut, at-tail, at-cr, at-begun, heldIn, Makes, makes, Fault, behind, within, at-field}
+use Rattle.steps.proofs.Forms.{At, at-quoted, at-cr, at-begun, Makes, makes, Fault, behind, within, at-field}
 use Rattle.format.proofs.Grow.{fields-grow, records-grow, fields-record, field-cut, fields-cut, records-cut}
 use Rattle.output.proofs.Close.{field-begun}
-use Rattle.output.proofs.Step.{Fresh, Known, Standing, standing, Clear, clear, not-shown, row-number, every-one, does}
+use Rattle.output.proofs.Step.{Fresh, Known, Clear, not-shown, row-number, every-one, does}
 
 every-parts : {A : Type 0} (P : A → Type 0) (l k : List A) → Every P (l ++ k) → Every P l × Every P k
 every-parts P [] k h = (tt, h)

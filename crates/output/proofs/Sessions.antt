@@ -1,5 +1,5 @@
 -- What a caller meets over many calls, by what the state stands for.
-use Prim.Native.Nat.{ℕ, _≤_, min}
+use Prim.Native.Nat.{ℕ}
 use native.Mathlib.Omega.{arith}
 use mathlib.Core.Path.{_≡_, refl, sym, ap, subst, _∙_}
 use mathlib.Core.Bool.{Bool, true, false, cond, not, _||_, or-true, true≢false}
@@ -10,7 +10,6 @@ use lib.ListN.{length, take, drop, replicate, length-take}
 use lib.Seq.{take-append-seam}
 use borrow.Author.Tests.{eqb-true, eqb-false}
 use Rattle.format.specs.declared.Answer.{Answer}
-use Rattle.format.specs.declared.Place.{Place}
 use Rattle.format.specs.Table.{Bytes, Content, Table, Every}
 use Rattle.format.specs.Dialect.{Dialect, Valid}
 use Rattle.format.specs.House.{empty, contentLimit, Fits}
@@ -29,7 +28,7 @@ use Rattle.pieces.specs.Asked.{asked}
 use Rattle.pieces.specs.Answers.{Answers}
 use Rattle.output.specs.declared.Stream.{Stream}
 use Rattle.output.specs.declared.Streamed.{Streamed}
-use Rattle.output.specs.Out.{Out, nothing, then, outOf, CameOut, Contents}
+use Rattle.output.specs.Out.{Out, nothing, outOf, Contents}
 use Rattle.output.specs.Stream.{shown, isOver, Called, answerOf, closedBy}
 use Rattle.output.specs.Promises.{Awaits, nothing-early, content-next, wholeOut, Stands, no-dialect, going, refused, declined, accepted, Into}
 use Rattle.output.proofs.Step.{Standing, standing, clear}

@@ -1,21 +1,19 @@
 -- One byte taken: what is out by the check before and behind it is what the grammar says of the bytes so far.
-use Prim.Native.Nat.{ℕ, zero, suc, _+_, _-_, _≤_, min}
+use Prim.Native.Nat.{ℕ, _+_, _-_, _≤_, min}
 use native.Mathlib.Omega.{arith}
 use mathlib.Core.Path.{_≡_, refl, sym, ap, subst, _∙_}
-use mathlib.Core.Bool.{Bool, true, false, cond, not, _&&_, _||_}
+use mathlib.Core.Bool.{Bool, true, false, cond, not, _||_}
 use mathlib.Core.List.{List, [], _∷_, _++_, append-assoc, append-nil, flatten}
 use lib.Dec.{eqb, leb}
 use lib.ListN.{length, take, replicate, length-append, length-replicate}
-use lib.Seq.{take-all, take-nil}
-use borrow.Author.Tests.{leb-true, leb-false, le-leb, lt-leb, eqb-true, eqb-false}
-use Rattle.format.specs.declared.Place.{Place}
+use lib.Seq.{take-all}
+use borrow.Author.Tests.{leb-true, le-leb, lt-leb, eqb-true, eqb-false}
 use Rattle.format.specs.Table.{Bytes, Content, Table, Every}
 use Rattle.format.specs.Dialect.{lf, ragged, names, Dialect, dialect, Class, text, blank, delimiter, quote, CR, LF, forbidden, classOf}
 use Rattle.format.specs.Grammar.{Field, Break}
 use Rattle.format.specs.House.{widthOf, EqualRows, contentLimit, fileLimit, Fits}
 use Rattle.format.specs.Refusal.{Fields, Records}
 use Rattle.format.specs.Memory.{lengths}
-use Rattle.format.proofs.Classes.{decide}
 use Rattle.steps.specs.Steps.{Form, start, lead, bare, quoted, shut, tail, cr, nothing, put, hold, drop, field-end, record-end, Act, refuse, go, next, carry, stepOf}
 use Rattle.steps.specs.Model.{isValid}
 use Rattle.steps.specs.Numbers.{formNumber}
@@ -25,13 +23,13 @@ use Rattle.state.specs.declared.Check.{Check}
 use Rattle.places.specs.Counters.{plus}
 use Rattle.state.specs.Check.{evenly, fed}
 use Rattle.state.proofs.Moves.{fed-keeps, fed-byte}
-use Rattle.state.proofs.Byte.{Within, Over, FieldOver, RecordOver, FieldEnds, RecordEnds, Does, actOf, fed-does}
+use Rattle.state.proofs.Byte.{Within, Over, FieldEnds, RecordEnds, Does, actOf, fed-does}
 use Rattle.output.specs.Out.{Out, then, outOf}
-use Rattle.output.specs.Stream.{shown, putsText, endsField, endsRecord, byteLeft, when, blanksDue, due}
+use Rattle.output.specs.Stream.{shown, putsText, endsField, byteLeft, when, blanksDue, due}
 use Rattle.steps.proofs.Forms.{At, at-start, at-lead, at-bare, at-quoted, at-shut, at-tail, at-cr, heldIn, Makes, makes, fault-number}
 use Rattle.format.proofs.Even.{width-more, even-more}
 use Rattle.format.proofs.Grow.{fields-grow, records-grow, fields-more, records-more, fields-record}
-use Rattle.format.proofs.Memory.{flatten-join, flatten-one, lengths-one}
+use Rattle.format.proofs.Memory.{flatten-one, lengths-one}
 use Rattle.output.proofs.Lists.{text-left, blanks-left}
 
 -- no byte came since the last record's end, or some did

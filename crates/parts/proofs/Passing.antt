@@ -1,17 +1,15 @@
 -- Many bytes at once: the part of a piece that is taken, what the second walk writes for it, and its entries made greater by what came before.
-use Prim.Native.Nat.{ℕ, zero, suc, _+_, _-_, _≤_, _<_, min}
+use Prim.Native.Nat.{ℕ, _+_, _-_, _≤_, _<_}
 use native.Mathlib.Omega.{arith}
 use mathlib.Core.Path.{_≡_, refl, sym, ap, subst, _∙_}
-use mathlib.Core.Bool.{Bool, true, false, cond}
+use mathlib.Core.Bool.{Bool, true, false}
 use mathlib.Core.List.{List, [], _∷_, _++_, append-assoc, append-nil}
-use lib.ListN.{length, take, drop, length-append, length-take, length-drop, take-append-drop, drop-of-length-le}
-use lib.Seq.{sets, sets-eq, drop-drop, take-take, take-at, drop-at, drop-append-le, take-append-add, drop-append-add, length-take-le, length-sets}
+use lib.ListN.{length, take, drop, length-append, length-drop, take-append-drop, drop-of-length-le}
+use lib.Seq.{sets, sets-eq, drop-drop, take-at, drop-at, length-take-le, length-sets}
 use Rattle.format.specs.Table.{Bytes, Every}
-use Rattle.format.specs.Dialect.{Dialect}
 use Rattle.format.specs.House.{contentLimit}
 use Rattle.format.specs.Memory.{largest32}
 use Rattle.steps.specs.Numbers.{formOf}
-use Rattle.places.specs.Counters.{counterLimit}
 use Rattle.state.specs.declared.Check.{Check}
 use Rattle.state.specs.Check.{fedAll}
 use Rattle.fill.specs.declared.Head.{Head}
@@ -20,8 +18,7 @@ use Rattle.fill.specs.Walk.{textAhead, endsAhead, rowsAhead, Grown, Wrote, rais
 use Rattle.fill.proofs.Left.{text-none, ends-none, rows-none}
 use Rattle.fill.proofs.Part.{raised-length, ends-any, rows-any, text-most, Entries, ends-part, rows-part}
 use Rattle.stride.specs.Stride.{Ample as Enough}
-use Rattle.output.specs.declared.Stream.{Stream}
-use Rattle.output.specs.Out.{Out, nothing, then}
+use Rattle.output.specs.Out.{nothing}
 use Rattle.output.specs.Stream.{shown, Room, left, onward, streamed}
 use Rattle.taking.specs.declared.Flow.{Flow}
 use Rattle.taking.specs.Walk.{roomAt, restOf, adding, Inside, Put, Grew}

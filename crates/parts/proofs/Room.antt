@@ -1,14 +1,10 @@
 -- The room that a byte needs, and the part of a piece for which there is room.
-use Prim.Native.Nat.{ℕ, _+_, _-_, _≤_, _<_, min}
+use Prim.Native.Nat.{ℕ, _+_, _-_, _≤_, min}
 use native.Mathlib.Omega.{arith}
 use mathlib.Core.Path.{_≡_}
-use mathlib.Core.Bool.{Bool, true, false, cond, _||_, true≢false}
-use lib.Dec.{leb}
-use borrow.Author.Tests.{le-leb, lt-leb}
+use mathlib.Core.Bool.{Bool, true, false, _||_, true≢false}
 use Rattle.format.specs.House.{fileLimit}
-use Rattle.output.specs.declared.Due.{Due}
 use Rattle.places.specs.Counters.{counterLimit}
-use Rattle.taking.specs.declared.Flow.{Flow}
 use Rattle.taking.specs.Walk.{one}
 use mir.Syntax.{w32, w64}
 use mir.Val.{Fits}

@@ -1,34 +1,31 @@
 -- Many bytes taken at once: what bytes put out that show no refusal is what the second walk writes for them.
-use Prim.Native.Nat.{ℕ, zero, suc, _+_, _-_, _≤_, _<_, min}
+use Prim.Native.Nat.{ℕ, suc, _+_, _-_, _≤_, _<_, min}
 use native.Mathlib.Omega.{arith}
-use mathlib.Core.Path.{_≡_, refl, sym, ap, subst, _∙_}
-use mathlib.Core.Bool.{Bool, true, false, cond, not, _&&_, _||_}
-use mathlib.Core.List.{List, [], _∷_, _++_, append-assoc}
-use lib.Dec.{eqb, leb}
+use mathlib.Core.Path.{_≡_, refl, sym, ap, _∙_}
+use mathlib.Core.Bool.{Bool, true, false, not}
+use mathlib.Core.List.{[], _∷_, _++_, append-assoc}
+use lib.Dec.{eqb}
 use lib.ListN.{length, replicate, length-append}
-use borrow.Author.Tests.{leb-true, le-leb, lt-leb, eqb-false}
+use borrow.Author.Tests.{le-leb, lt-leb, eqb-false}
 use Rattle.format.specs.Table.{Bytes}
-use Rattle.format.specs.Dialect.{lf, Dialect, dialect, names, classOf}
 use Rattle.format.specs.House.{contentLimit}
-use Rattle.format.proofs.Classes.{decide}
-use Rattle.steps.specs.Steps.{Form, start, nothing, put, hold, drop, field-end, record-end, Act, refuse, go, stepOf}
-use Rattle.steps.specs.Numbers.{formNumber, formOf}
+use Rattle.steps.specs.Steps.{Form, start, nothing, put, hold, drop, field-end, record-end, Act, refuse, go}
+use Rattle.steps.specs.Numbers.{formNumber}
 use Rattle.steps.proofs.Rules.{form-back}
 use Rattle.steps.proofs.Acts.{Proper, step-proper}
 use Rattle.places.specs.Counters.{counterLimit, plus}
 use Rattle.state.specs.declared.Check.{Check}
 use Rattle.state.specs.Check.{fed, fedAll}
 use Rattle.state.proofs.Moves.{Keeps, fed-none, fed-cons, fed-keeps}
-use Rattle.state.proofs.Byte.{Within, Over, FieldEnds, RecordEnds, Does, actOf, fed-does}
+use Rattle.state.proofs.Byte.{Within, FieldEnds, RecordEnds, Does, actOf, fed-does}
 use Rattle.fill.specs.Fill.{textBy, endsBy, rowsBy, textLeft, endsLeft, rowsLeft}
 use Rattle.fill.proofs.Left.{text-none, text-byte, ends-none, ends-byte, rows-none, rows-byte}
 use Rattle.fill.proofs.Part.{ends-any, rows-any}
-use Rattle.output.specs.declared.Stream.{Stream}
 use Rattle.output.specs.Out.{Out, nothing as silence, then}
-use Rattle.output.specs.Stream.{shown, isOver, putsText, endsField, byteLeft, due, Room, fits, left, Called, onward, taking, streamed}
+use Rattle.output.specs.Stream.{shown, putsText, endsField, byteLeft, due, Room, fits, left, Called, onward, taking, streamed}
 use Rattle.taking.specs.Walk.{adding}
 use Rattle.parts.specs.Parts.{dialectOf, putOut}
-use Rattle.output.proofs.Step.{Clear, clear, due-quiet, due-text, due-field, due-record}
+use Rattle.output.proofs.Step.{clear, due-quiet, due-text, due-field, due-record}
 use Rattle.output.proofs.Calls.{then-then}
 use Rattle.output.proofs.Meaning.{shown-first}
 

@@ -1,29 +1,19 @@
 -- A whole call.
-use Prim.Native.Nat.{ℕ, zero, suc, _+_, _-_, _≤_, _<_, min}
-use native.Mathlib.Numerals.{add-one}
+use Prim.Native.Nat.{ℕ, _+_, _-_}
 use native.Mathlib.Omega.{arith}
-use mathlib.Core.Path.{_≡_, refl, sym, ap, subst, _∙_}
-use mathlib.Core.Bool.{Bool, true, false, cond, _&&_}
-use lib.Dec.{leb}
-use mathlib.Core.List.{List, [], _∷_, _++_, append-nil}
-use lib.ListN.{length, drop, getD, replicate, length-append, length-replicate, drop-of-length-le}
-use lib.Seq.{sets, drop-cons, length-sets}
+use mathlib.Core.Path.{_≡_, refl, sym, subst, _∙_}
+use mathlib.Core.List.{List}
+use lib.ListN.{length}
 use Rattle.format.specs.Table.{Bytes}
 use Rattle.format.specs.Filling.{over}
-use Rattle.format.proofs.Filling.{begin, sets-append}
-use Rattle.state.specs.declared.Check.{Check}
-use Rattle.state.specs.Check.{fed}
+use Rattle.format.proofs.Filling.{begin}
 use Rattle.output.specs.declared.Stream.{Stream}
-use Rattle.output.specs.Out.{Out, nothing, then}
-use Rattle.output.specs.Stream.{shown, isOver, putsText, endsField, endsRecord, byteLeft, when, blanksDue, due, Room, fits, left, shortOf, Called, idle, onward, showing, stuck, taking, streamed, closedBy, answerOf}
+use Rattle.output.specs.Stream.{Called, streamed, closedBy, answerOf}
 use Rattle.output.specs.Promises.{Into, roomOf}
 use Rattle.output.specs.declared.Streamed.{Streamed}
 use Rattle.output.proofs.Step.{then-nothing}
-use Rattle.output.proofs.Calls.{then-then}
-use Rattle.output.specs.declared.Due.{Due}
-use Rattle.output.proofs.Bytewise.{due-is, short-is, streamed-none, streamed-over, streamed-shown, streamed-taken, streamed-stuck}
 use Rattle.taking.specs.declared.Flow.{Flow}
-use Rattle.taking.specs.Walk.{roomAt, restOf, stopAt, adding, Inside, Put, Grew, Took, one}
+use Rattle.taking.specs.Walk.{stopAt, Put, Grew}
 
 -- all of a call
 abbrev begun : Stream → Flow

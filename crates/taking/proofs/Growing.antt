@@ -1,8 +1,8 @@
 -- How a call goes on: one stretch behind another, and by one byte.
-use Prim.Native.Nat.{ℕ, zero, suc, _+_, _-_, _≤_, _<_, min}
+use Prim.Native.Nat.{ℕ, suc, _+_, _-_, _≤_, _<_, min}
 use native.Mathlib.Numerals.{add-one}
 use native.Mathlib.Omega.{arith}
-use mathlib.Core.Path.{_≡_, refl, sym, ap, subst, _∙_}
+use mathlib.Core.Path.{_≡_, refl, sym, ap, _∙_}
 use mathlib.Core.Bool.{Bool, true, false, cond, _&&_, true≢false}
 use lib.Dec.{leb}
 use mathlib.Core.List.{List, [], _∷_, _++_, append-nil}
@@ -10,16 +10,11 @@ use lib.ListN.{length, drop, getD, replicate, length-append, length-replicate, d
 use lib.Seq.{sets, drop-cons, length-sets, take-append-seam}
 use borrow.Author.Tests.{leb-true, leb-false, le-leb}
 use Rattle.format.specs.Table.{Bytes}
-use Rattle.format.specs.Filling.{over}
-use Rattle.format.proofs.Filling.{begin, sets-append}
+use Rattle.format.proofs.Filling.{sets-append}
 use Rattle.state.specs.declared.Check.{Check}
 use Rattle.state.specs.Check.{fed}
-use Rattle.output.specs.declared.Stream.{Stream}
 use Rattle.output.specs.Out.{Out, nothing, then}
-use Rattle.output.specs.Stream.{shown, isOver, putsText, endsField, endsRecord, byteLeft, when, blanksDue, due, Room, fits, left, shortOf, Called, idle, onward, showing, stuck, taking, streamed, closedBy, answerOf}
-use Rattle.output.specs.Promises.{Into, roomOf}
-use Rattle.output.specs.declared.Streamed.{Streamed}
-use Rattle.output.proofs.Step.{then-nothing}
+use Rattle.output.specs.Stream.{shown, isOver, putsText, endsField, endsRecord, byteLeft, when, blanksDue, due, Room, fits, left, shortOf, Called, idle, onward, taking, streamed}
 use Rattle.output.proofs.Calls.{then-then}
 use Rattle.output.specs.declared.Due.{Due}
 use Rattle.output.proofs.Bytewise.{due-is, short-is, streamed-none, streamed-over, streamed-shown, streamed-taken, streamed-stuck}

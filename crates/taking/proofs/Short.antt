@@ -1,17 +1,12 @@
 -- The room that a byte needs, and the part of a piece for which there is room.
-use Prim.Native.Nat.{ℕ, _+_, _-_, _≤_, _<_, min}
-use native.Mathlib.Omega.{arith}
+use Prim.Native.Nat.{ℕ, _+_, _-_, _≤_, _<_}
 use mathlib.Core.Path.{_≡_}
-use mathlib.Core.Bool.{Bool, true, false, cond, _||_, true≢false}
+use mathlib.Core.Bool.{cond}
 use lib.Dec.{leb}
 use borrow.Author.Tests.{le-leb, lt-leb}
-use Rattle.format.specs.House.{fileLimit}
 use Rattle.output.specs.declared.Due.{Due}
-use Rattle.places.specs.Counters.{counterLimit}
 use Rattle.taking.specs.declared.Flow.{Flow}
 use Rattle.taking.specs.Walk.{one}
-use mir.Syntax.{w32, w64}
-use mir.Val.{Fits}
 
 -- the buffer that is too small for what a byte puts out, the lowest number first
 module _ (p : Flow) (d : Due) (text ends rows : ℕ) where

@@ -4,16 +4,13 @@ use Rattle.output.specs.Stream.{blanksDue}
 use borrow.Author.Needs.{needs}
 use Rattle.output.proofs.blanks_due.Statement.{statement}
 use Rattle.output.proofs.blanks_due.Tie as tie
-use Rattle.output.proofs.blanks_due.Reads as reads
-use Rattle.output.proofs.blanks_due.Lts as lts
-use Rattle.output.proofs.blanks_left.Reads as blanks-left-reads
 
 returns : tie.Need-returns
 unfolding blanksDue
 returns c = (rw (le-leb _ _ (c .if1 .taken)), search needs)
 
 blanks-left-requires : tie.Need-blanks-left-requires
-blanks-left-requires c κs = search needs
+blanks-left-requires c κs = tt
 
 returns-2 : tie.Need-returns-2
 unfolding blanksDue

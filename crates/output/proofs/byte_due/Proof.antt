@@ -2,18 +2,14 @@
 use Rattle.format.specs.House.{contentLimit}
 use borrow.Author.Tests.{le-leb, lt-leb}
 use Rattle.output.proofs.Bytewise.{left-is}
-use borrow.Author.Needs.{needs}
 use Rattle.output.proofs.byte_due.Statement.{statement}
 use Rattle.output.proofs.byte_due.Tie as tie
-use Rattle.output.proofs.byte_due.Reads as reads
-use Rattle.output.proofs.byte_due.Lts as lts
-use Rattle.output.proofs.minus.Reads as minus-reads
 
 returns : tie.Need-returns
 returns c = rw (le-leb _ _ (c .if1 .taken))
 
 minus-requires : tie.Need-minus-requires
-minus-requires c κs = search needs
+minus-requires c κs = tt
 
 returns-2 : tie.Need-returns-2
 returns-2 c = rw (lt-leb _ _ (c .before .before .if1 .left), c .before .minus .ensures) (let a = c .before .before .before .before .before .args .c .field in left-is (a .held) (a .content) contentLimit)

@@ -1,19 +1,15 @@
 -- `output::closed_by` meets its contract.
 use borrow.Author.Tests.{eq-eqb, ne-eqb}
 use Rattle.output.specs.Stream.{closedBy}
-use borrow.Author.Needs.{needs}
 use Rattle.output.proofs.closed_by.Statement.{statement}
 use Rattle.output.proofs.closed_by.Tie as tie
-use Rattle.output.proofs.closed_by.Reads as reads
-use Rattle.output.proofs.closed_by.Lts as lts
-use Rattle.pieces.proofs.ask.Reads as ask-reads
 
 returns : tie.Need-returns
 unfolding closedBy
 returns c = rw (c .if1 .taken)
 
 ask-requires : tie.Need-ask-requires
-ask-requires c κs = search needs
+ask-requires c κs = tt
 
 returns-2 : tie.Need-returns-2
 unfolding closedBy

@@ -2,8 +2,6 @@
 use borrow.Author.Tests.{eq-eqb, ne-eqb}
 use Rattle.output.proofs.ends_record.Statement.{statement}
 use Rattle.output.proofs.ends_record.Tie as tie
-use Rattle.output.proofs.ends_record.Reads as reads
-use Rattle.output.proofs.ends_record.Lts as lts
 
 returns : tie.Need-returns
 returns c = rw (ne-eqb _ _ (c .if1 .taken))

@@ -1,13 +1,9 @@
 -- `output::is_over` meets its contract.
-use borrow.Author.Needs.{needs}
 use Rattle.output.proofs.is_over.Statement.{statement}
 use Rattle.output.proofs.is_over.Tie as tie
-use Rattle.output.proofs.is_over.Reads as reads
-use Rattle.output.proofs.is_over.Lts as lts
-use Rattle.output.proofs.is_shown.Reads as is-shown-reads
 
 is-shown-requires : tie.Need-is-shown-requires
-is-shown-requires c κs = search needs
+is-shown-requires c κs = tt
 
 returns : tie.Need-returns
 returns c = let z = c .before .is-shown .ensures in let y = c .if1 .taken in rw (← z, y)

@@ -4,15 +4,11 @@ use mathlib.Core.Bool.{true}
 use borrow.Author.Tests.{le-leb, lt-leb, not-true, not-false}
 use Rattle.steps.specs.Model.{isValid}
 use Rattle.output.specs.Stream.{shown}
-use borrow.Author.Needs.{needs}
 use Rattle.output.proofs.is_shown.Statement.{statement}
 use Rattle.output.proofs.is_shown.Tie as tie
-use Rattle.output.proofs.is_shown.Reads as reads
-use Rattle.output.proofs.is_shown.Lts as lts
-use Rattle.state.proofs.is_valid.Reads as is-valid-reads
 
 is-valid-requires : tie.Need-is-valid-requires
-is-valid-requires c κs = search needs
+is-valid-requires c κs = tt
 
 -- the dialect is one
 valid : (c : tie.Else1) → let a = c .before .before .args .c in isValid (a .delimiter) (a .leniencies) ≡ true

@@ -44,46 +44,46 @@ cast-limit : tie.Need-cast-limit
 cast-limit c = search needs
 
 minus-requires : tie.Need-minus-requires
-minus-requires c κs = search needs
+minus-requires c κs = tt
 
 smaller-requires : tie.Need-smaller-requires
-smaller-requires c κs = search needs
+smaller-requires c κs = tt
 
 minus-requires-2 : tie.Need-minus-requires-2
-minus-requires-2 c κs = search needs
+minus-requires-2 c κs = tt
 
 minus-requires-3 : tie.Need-minus-requires-3
-minus-requires-3 c κs = search needs
+minus-requires-3 c κs = tt
 
 smaller-requires-2 : tie.Need-smaller-requires-2
-smaller-requires-2 c κs = search needs
+smaller-requires-2 c κs = tt
 
 minus-requires-4 : tie.Need-minus-requires-4
-minus-requires-4 c κs = search needs
+minus-requires-4 c κs = tt
 
 smaller-requires-3 : tie.Need-smaller-requires-3
-smaller-requires-3 c κs = search needs
+smaller-requires-3 c κs = tt
 
 minus-requires-5 : tie.Need-minus-requires-5
-minus-requires-5 c κs = search needs
+minus-requires-5 c κs = tt
 
 smaller-requires-4 : tie.Need-smaller-requires-4
-smaller-requires-4 c κs = search needs
+smaller-requires-4 c κs = tt
 
 add-minus : tie.Need-add-minus
 add-minus c = let k = c .before .before .before .before .before .before .before .before .before .before .before .before .before .before .before in wide3 (text-fits k) (content-fits k) (held-fits k)
 
 minus-requires-6 : tie.Need-minus-requires-6
-minus-requires-6 c κs = search needs
+minus-requires-6 c κs = tt
 
 smaller-requires-5 : tie.Need-smaller-requires-5
-smaller-requires-5 c κs = search needs
+smaller-requires-5 c κs = tt
 
 minus-requires-7 : tie.Need-minus-requires-7
-minus-requires-7 c κs = search needs
+minus-requires-7 c κs = tt
 
 smaller-requires-6 : tie.Need-smaller-requires-6
-smaller-requires-6 c κs = search needs
+smaller-requires-6 c κs = tt
 
 returns-2 : tie.Need-returns-2
 returns-2 c =

@@ -5,18 +5,12 @@ use Rattle.parts.proofs.Passing.{beyond-grew}
 use borrow.Author.Needs.{needs}
 use Rattle.parts.proofs.pass_beyond.Statement.{statement}
 use Rattle.parts.proofs.pass_beyond.Tie as tie
-use Rattle.parts.proofs.pass_beyond.Reads as reads
-use Rattle.parts.proofs.pass_beyond.Lts as lts
-use Rattle.output.proofs.is_shown.Reads as is-shown-reads
-use Rattle.pieces.proofs.feed.Reads as feed-reads
-use Rattle.output.proofs.onward_from.Reads as onward-from-reads
-use Rattle.parts.proofs.smaller.Reads as smaller-reads
 
 sub-smaller : tie.Need-sub-smaller
 sub-smaller c = search needs
 
 smaller-requires : tie.Need-smaller-requires
-smaller-requires c κs = search needs
+smaller-requires c κs = tt
 
 add-to : tie.Need-add-to
 add-to c = search needs
@@ -31,16 +25,16 @@ part-feed-end : tie.Need-part-feed-end
 part-feed-end c = search needs
 
 feed-requires : tie.Need-feed-requires
-feed-requires c κs = search needs
+feed-requires c κs = tt
 
 is-shown-requires : tie.Need-is-shown-requires
-is-shown-requires c κs = search needs
+is-shown-requires c κs = tt
 
 returns : tie.Need-returns
 returns c = λ text ends rows w. grew-none w
 
 onward-from-requires : tie.Need-onward-from-requires
-onward-from-requires c κs = search needs
+onward-from-requires c κs = tt
 
 returns-2 : tie.Need-returns-2
 returns-2 c =

@@ -6,11 +6,6 @@ use Rattle.taking.proofs.Growing.{grew-none}
 use borrow.Author.Needs.{needs}
 use Rattle.parts.proofs.pass_on.Statement.{statement}
 use Rattle.parts.proofs.pass_on.Tie as tie
-use Rattle.parts.proofs.pass_on.Reads as reads
-use Rattle.parts.proofs.pass_on.Lts as lts
-use Rattle.parts.proofs.part.Reads as part-reads
-use Rattle.parts.proofs.pass_beyond.Reads as pass-beyond-reads
-use Rattle.parts.proofs.pass_part.Reads as pass-part-reads
 
 -- no blank is out early, and no close has ended the stream
 plain : (c : tie.Else2) → Plain (c .before .before .before .before .before .before .before .before .args .p)
@@ -29,7 +24,7 @@ returns-3 : tie.Need-returns-3
 returns-3 c = c .pass-beyond .ensures _ _ _ (c .before .before .before .before .before .before .before .before .before .before .before .pre)
 
 part-requires : tie.Need-part-requires
-part-requires c κs = search needs
+part-requires c κs = tt
 
 returns-4 : tie.Need-returns-4
 returns-4 c = grew-none (c .before .before .before .before .before .before .before .before .before .before .before .before .pre)

@@ -5,13 +5,8 @@ use borrow.Author.Tests.{not-true, not-false}
 use lib.ListN.{length}
 use Rattle.taking.specs.Walk.{insideBy}
 use Rattle.taking.proofs.Growing.{by-inside, grew-sizes}
-use borrow.Author.Needs.{needs}
 use Rattle.parts.proofs.passed.Statement.{statement}
 use Rattle.parts.proofs.passed.Tie as tie
-use Rattle.parts.proofs.passed.Reads as reads
-use Rattle.parts.proofs.passed.Lts as lts
-use Rattle.parts.proofs.pass_on.Reads as pass-on-reads
-use Rattle.taking.proofs.is_inside.Reads as is-inside-reads
 
 -- the test, by the lengths
 outside : (c : tie.Then1) → let a = c .before .before .before .before .before .before .args in insideBy (a .p) (length (a .piece .now)) (length (a .text .now)) (length (a .ends .now)) (length (a .rows .now)) ≡ false

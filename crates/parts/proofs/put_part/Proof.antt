@@ -6,10 +6,6 @@ use Rattle.parts.proofs.Passing.{enough, text-put, ends-raisable, rows-
 use borrow.Author.Needs.{needs}
 use Rattle.parts.proofs.put_part.Statement.{statement}
 use Rattle.parts.proofs.put_part.Tie as tie
-use Rattle.parts.proofs.put_part.Reads as reads
-use Rattle.parts.proofs.put_part.Lts as lts
-use Rattle.parts.proofs.raise.Reads as raise-reads
-use Rattle.walk.proofs.walked.Reads as walked-reads
 
 -- from a place of the code back to one before it
 abbrev start : tie.After-walked → tie.Start
@@ -28,7 +24,7 @@ part-walked-end : tie.Need-part-walked-end
 part-walked-end c = search needs
 
 walked-requires : tie.Need-walked-requires
-walked-requires c κs = search needs
+walked-requires c κs = tt
 
 add-raise : tie.Need-add-raise
 add-raise c = omega (arith, start (c .before .before .before .before .before .before .before .before) .pre .1 .small)

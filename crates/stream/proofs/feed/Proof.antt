@@ -4,16 +4,12 @@ use Rattle.stream.proofs.Whole.{grew-into}
 use borrow.Author.Needs.{needs}
 use Rattle.stream.proofs.feed.Statement.{statement}
 use Rattle.stream.proofs.feed.Tie as tie
-use Rattle.stream.proofs.feed.Reads as reads
-use Rattle.stream.proofs.feed.Lts as lts
-use Rattle.output.proofs.told.Reads as told-reads
-use Rattle.stream.proofs.flowed.Reads as flowed-reads
 
 flowed-requires : tie.Need-flowed-requires
-flowed-requires c κs = search needs
+flowed-requires c κs = tt
 
 told-requires : tie.Need-told-requires
-told-requires c κs = search needs
+told-requires c κs = tt
 
 same-length : tie.Need-same-length
 same-length c = search needs

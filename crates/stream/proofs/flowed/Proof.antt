@@ -7,11 +7,6 @@ use Rattle.taking.specs.Walk.{restOf, Grew}
 use Rattle.taking.proofs.Growing.{inside-by, grew-none, grew-then, grew-inside, grew-sizes, took-end}
 use Rattle.stream.proofs.flowed.Statement.{statement}
 use Rattle.stream.proofs.flowed.Tie as tie
-use Rattle.stream.proofs.flowed.Reads as reads
-use Rattle.stream.proofs.flowed.Lts as lts
-use Rattle.stream.proofs.next_most.Reads as next-most-reads
-use Rattle.parts.proofs.passed.Reads as passed-reads
-use Rattle.taking.proofs.take_byte.Reads as take-byte-reads
 
 -- a byte was taken
 further : (m n : ℕ) → m ≤ n → (n ≡ m → ⊥) → m < n

@@ -1,14 +1,13 @@
 -- `stream::start` meets its contract.
 use Rattle.output.proofs.Closing.{start-onward}
-use borrow.Author.Needs.{needs}
 use Rattle.stream.proofs.start.Statement.{statement}
 use Rattle.stream.proofs.start.Tie as tie
 
 start-requires : tie.Need-start-requires
-start-requires c κs = search needs
+start-requires c κs = tt
 
 onward-from-requires : tie.Need-onward-from-requires
-onward-from-requires c κs = search needs
+onward-from-requires c κs = tt
 
 returns : tie.Need-returns
 returns c = start-onward (c .before .start .ensures .result) (c .onward-from .ensures)

@@ -5,7 +5,7 @@ use Rattle.taking.proofs.behind.Statement.{statement}
 use Rattle.taking.proofs.behind.Tie as tie
 
 onward-from-requires : tie.Need-onward-from-requires
-onward-from-requires c κs = search needs
+onward-from-requires c κs = tt
 
 add-t7 : tie.Need-add-t7
 add-t7 c = search needs

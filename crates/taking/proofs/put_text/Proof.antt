@@ -23,7 +23,7 @@ inside : (c : tie.Then1) → let r = c .before .before .before in r .put-run .re
 inside c = let r = c .before .before .before in let a = start r .args in text-in (a .text .now) (a .at) (a .count) (ends r) (now-is r) (a .some) (c .if1 .taken) (start r .pre)
 
 put-run-requires : tie.Need-put-run-requires
-put-run-requires c κs = search needs
+put-run-requires c κs = tt
 
 slice-write-text : tie.Need-slice-write-text
 slice-write-text c = omega (arith, inside c)

@@ -13,13 +13,13 @@ ends-in : (c : tie.Else2) → let a = c .before .before .before .before .before 
 ends-in c = let b = c .before in omega (arith, c .if2 .left, b .number2 .ensures, b .before .minus2 .ensures)
 
 minus-requires : tie.Need-minus-requires
-minus-requires c κs = search needs
+minus-requires c κs = tt
 
 cast-if1 : tie.Need-cast-if1
 cast-if1 c = search needs
 
 number-requires : tie.Need-number-requires
-number-requires c κs = search needs
+number-requires c κs = tt
 
 add-if1 : tie.Need-add-if1
 add-if1 c = omega (arith, c .before .struct-known .given, c .number .ensures, one-most (c .before .before .before .args .d .byte))
@@ -31,10 +31,10 @@ returns c =
     short-text (a .p) (a .d) (a .text) (a .ends) (a .rows) (omega (arith, c .if1 .taken, b .number .ensures, b .before .before .minus .ensures))
 
 minus-requires-2 : tie.Need-minus-requires-2
-minus-requires-2 c κs = search needs
+minus-requires-2 c κs = tt
 
 number-requires-2 : tie.Need-number-requires-2
-number-requires-2 c κs = search needs
+number-requires-2 c κs = tt
 
 returns-2 : tie.Need-returns-2
 returns-2 c =
@@ -43,10 +43,10 @@ returns-2 c =
     short-ends (a .p) (a .d) (a .text) (a .ends) (a .rows) (text-in (b .before .before)) (omega (arith, c .if2 .taken, b .number2 .ensures, b .before .minus2 .ensures))
 
 minus-requires-3 : tie.Need-minus-requires-3
-minus-requires-3 c κs = search needs
+minus-requires-3 c κs = tt
 
 number-requires-3 : tie.Need-number-requires-3
-number-requires-3 c κs = search needs
+number-requires-3 c κs = tt
 
 returns-3 : tie.Need-returns-3
 returns-3 c =

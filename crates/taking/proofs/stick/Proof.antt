@@ -30,10 +30,10 @@ sub-smaller : tie.Need-sub-smaller
 sub-smaller c = search needs
 
 smaller-requires : tie.Need-smaller-requires
-smaller-requires c κs = search needs
+smaller-requires c κs = tt
 
 put-run-requires : tie.Need-put-run-requires
-put-run-requires c κs = search needs
+put-run-requires c κs = tt
 
 cast-t14 : tie.Need-cast-t14
 cast-t14 c = search needs

@@ -7,10 +7,6 @@ use Rattle.taking.specs.Walk.{insideBy}
 use Rattle.taking.proofs.Growing.{by-inside, took-sizes}
 use Rattle.taking.proofs.take_byte.Statement.{statement}
 use Rattle.taking.proofs.take_byte.Tie as tie
-use Rattle.taking.proofs.take_byte.Reads as reads
-use Rattle.taking.proofs.take_byte.Lts as lts
-use Rattle.taking.proofs.is_inside.Reads as is-inside-reads
-use Rattle.taking.proofs.take_inside.Reads as take-inside-reads
 
 -- the test, by the lengths
 outside : (c : tie.Then1) → let a = c .before .before .before .before .before .before .args in insideBy (a .p) (length (a .piece .now)) (length (a .text .now)) (length (a .ends .now)) (length (a .rows .now)) ≡ false

@@ -16,17 +16,6 @@ use Rattle.taking.proofs.Growing.{end-grew, over-grew, ended-took, show
 use borrow.Author.Needs.{needs}
 use Rattle.taking.proofs.take_inside.Statement.{statement}
 use Rattle.taking.proofs.take_inside.Tie as tie
-use Rattle.taking.proofs.take_inside.Reads as reads
-use Rattle.taking.proofs.take_inside.Lts as lts
-use Rattle.output.proofs.due_by.Reads as due-by-reads
-use Rattle.output.proofs.is_over.Reads as is-over-reads
-use Rattle.output.proofs.is_shown.Reads as is-shown-reads
-use Rattle.state.proofs.Check.take.Reads as take-reads
-use Rattle.taking.proofs.behind.Reads as behind-reads
-use Rattle.taking.proofs.put_due.Reads as put-due-reads
-use Rattle.taking.proofs.short_of.Reads as short-of-reads
-use Rattle.taking.proofs.stick.Reads as stick-reads
-use Rattle.taking.proofs.still.Reads as still-reads
 
 -- from a place of the code back to one before it
 abbrev start : tie.After-is-over → tie.Start
@@ -76,16 +65,16 @@ module _ (k : tie.After-short-of) where
   short-by = k .short-of .ensures ∙ short-is-of (p .state .early) (p .state .check) b e due-is r
 
 still-requires : tie.Need-still-requires
-still-requires c κs = search needs
+still-requires c κs = tt
 
 returns : tie.Need-returns
 returns c = let s = c .before .before .before .before .before .before .before in ended-took (s .pre) (c .still .ensures) (end-grew (s .pre) (c .before .if1 .taken))
 
 is-over-requires : tie.Need-is-over-requires
-is-over-requires c κs = search needs
+is-over-requires c κs = tt
 
 still-requires-2 : tie.Need-still-requires-2
-still-requires-2 c κs = search needs
+still-requires-2 c κs = tt
 
 returns-2 : tie.Need-returns-2
 returns-2 c = let k = c .before .before in let s = start k in ended-took (s .pre) (c .still2 .ensures) (over-grew (s .pre) (sym (k .is-over .ensures) ∙ c .before .if2 .taken))
@@ -94,10 +83,10 @@ shared-slice-read-b : tie.Need-shared-slice-read-b
 shared-slice-read-b c = search needs
 
 take-requires : tie.Need-take-requires
-take-requires c κs = search needs
+take-requires c κs = tt
 
 is-shown-requires : tie.Need-is-shown-requires
-is-shown-requires c κs = search needs
+is-shown-requires c κs = tt
 
 behind-requires : tie.Need-behind-requires
 behind-requires c κs = let k = over-of (c .before) in omega (arith, start k .good, k .before .before .if1 .left)
@@ -109,10 +98,10 @@ returns-3 c =
     shown-took (start v .pre) (v .before .before .if1 .left) (open-yet k) (rw (behind-byte k) at (sym (k .is-shown .ensures) ∙ c .before .if3 .taken)) (rw (behind-byte k) at (c .behind .ensures))
 
 due-by-requires : tie.Need-due-by-requires
-due-by-requires c κs = search needs
+due-by-requires c κs = tt
 
 short-of-requires : tie.Need-short-of-requires
-short-of-requires c κs = search needs
+short-of-requires c κs = tt
 
 stick-requires : tie.Need-stick-requires
 stick-requires c κs =
