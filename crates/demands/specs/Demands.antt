@@ -81,7 +81,7 @@ pub record Demand1 : Type 0 where
   pub missing-field :
       {text stand-in shown : Bytes} {ends rows : List ℕ} {r k : ℕ}
       → Shown text ends rows r k stand-in shown → Lacks text ends rows r k → shown ≡ stand-in
-  -- A refused call writes nothing in any buffer it was lent. (The first of a writer's numbers is its refusal.)
+  -- A refused call writes nothing in any buffer it was lent. (The first of a writer's numbers is its refusal. For the stream this is amended: specs/Streaming.)
   pub refused-read : {b sum : ℕ} {f : Bytes} {lent : Slices} (c : Read b sum f lent) → (c .answer .refusal ≡ 0 → ⊥) → c .left ≡ lent
   pub refused-write : {m : Slices} {mode : ℕ} {out : Bytes} (w : Write m mode out) → (getD (writerNumbers (w .answer)) 0 0 ≡ 0 → ⊥) → w .left ≡ out
 
