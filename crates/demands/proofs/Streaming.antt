@@ -1,26 +1,27 @@
 -- The first request holds: each statement of specs/Streaming by its laws.
-use Prim.Native.Nat.{ℕ, _≤_, _<_}
+use Prim.Native.Nat.{ℕ, _+_, _≤_, _<_}
 use native.Mathlib.Omega.{arith}
 use mathlib.Core.Path.{_≡_, refl, sym, ap, subst, _∙_}
-use mathlib.Core.Bool.{true}
+use mathlib.Core.Bool.{true, false}
 use mathlib.Core.Logic.{_⊎_, inl, inr}
 use mathlib.Core.List.{List, [], _∷_, _++_}
 use lib.ListN.{length, take, drop}
 use Rattle.format.specs.declared.Answer.{Answer}
 use Rattle.format.specs.Table.{Bytes}
 use Rattle.format.specs.Place.{nowhere}
+use Rattle.format.specs.Filling.{over}
 use Rattle.format.specs.Answer.{refusedBy}
 use Rattle.pieces.specs.Answers.{Answers}
 use Rattle.output.specs.declared.Stream.{Stream}
 use Rattle.output.specs.declared.Streamed.{Streamed}
-use Rattle.output.specs.Out.{Out, then}
-use Rattle.output.specs.Stream.{isOver, streamed, Called, idle, answerOf, closedBy, leftOf}
+use Rattle.output.specs.Out.{Out, nothing, then}
+use Rattle.output.specs.Stream.{isOver, streamed, closed, Called, idle, answerOf, closedBy, leftOf}
 use Rattle.output.specs.Promises.{Awaits, Stands, Into, Fed, roomOf}
 use Rattle.output.proofs.Bytewise.{streamed-over}
 use Rattle.output.proofs.Closing.{closed-over}
 use Rattle.output.proofs.Laws.{answer-is-check}
 use Rattle.output.proofs.Before.{before-fault, before-limit}
-use Rattle.output.proofs.Progress.{Stops, whole, ended, lacking, room-takes, stops-for}
+use Rattle.output.proofs.Progress.{Stops, whole, ended, lacking, Within, goes-on, room-takes, stops-for, stays-within, short-stops, close-stays, close-ends, close-room}
 use Rattle.output.proofs.Ending.{left-falls}
 use Rattle.output.proofs.Sessions as laws
 use Rattle.demands.specs.Streaming.{Session, begins, feeds, closes, Ended, Streaming}
@@ -98,9 +99,49 @@ falling {x = x} {piece = piece} {text = text} {ends = ends} {rows} {s = s} {r = 
         then-by (inl o) = inl (ended-by (streamed s (x ∷ piece) (roomOf text ends rows) .state) (w .into .answer) (w .into .closed) o)
         then-by (inr l) = inr (rw (w .into .state, w .into .taken) l)
 
+-- what a call puts out, in counts
+counts :
+    {c : Called} {text text′ : Bytes} {ends rows ends′ rows′ : List ℕ} {r : Streamed} {piece : Bytes}
+    → Into c text ends rows r text′ ends′ rows′ → Within piece (roomOf text ends rows) c
+    → (r .taken ≤ length piece) × (r .text ≤ length text) × (r .ends ≤ length ends) × (r .rows ≤ length rows)
+counts i w = rw (i .taken, i .text-count, i .ends-count, i .rows-count) (w .taken, w .text, w .ends, w .rows)
+
+-- a call that puts nothing out leaves ends and rows
+leaves :
+    {c : Called} {ends rows ends′ rows′ : List ℕ} {r : Streamed} → Into c [] ends rows r [] ends′ rows′ → c .out ≡ nothing → (ends′ ≡ ends) × (rows′ ≡ rows)
+leaves {ends = ends} {rows} i e =
+    (i .ends-is ∙ ap (λ (o : Out). over (o .ends) ends) e, i .rows-is ∙ ap (λ (o : Out). over (o .rows) rows) e)
+
+shorter :
+    {piece text text′ : Bytes} {ends rows ends′ rows′ : List ℕ} {s : Stream} {r : Streamed}
+    → Fed s piece text ends rows r text′ ends′ rows′ → (r .short ≡ 0 → ⊥) → r .taken < length piece
+shorter {piece} {text} {ends = ends} {rows} {s = s} {r} w n = by (short-stops piece s (roomOf text ends rows))
+  where
+    by : (streamed s piece (roomOf text ends rows) .short ≡ 0) ⊎ (streamed s piece (roomOf text ends rows) .taken < length piece) → r .taken < length piece
+    by (inl e) = absurd (n (w .into .short ∙ e))
+    by (inr l) = rw (w .into .taken) l
+
+going :
+    {x : ℕ} {piece text text′ : Bytes} {ends rows ends′ rows′ : List ℕ} {s : Stream} {r : Streamed}
+    → Fed s (x ∷ piece) text ends rows r text′ ends′ rows′ → isOver s ≡ false → 1 ≤ length text → 1 ≤ length ends → 1 ≤ length rows
+    → (1 ≤ r .taken) ⊎ ((1 ≤ r .text) × (r .state .early ≡ s .early + r .text))
+going {x} {piece} {text} {ends = ends} {rows} {s = s} w o p q u = rw (w .into .taken, w .into .text-count, w .into .state) (goes-on s x piece (roomOf text ends rows) o p q u)
+
 pub streaming : Streaming
 streaming =
     record {
+      lent = λ {piece} {text} {ends = ends} {rows = rows} {s = s} w. counts (w .into) (stays-within piece s (roomOf text ends rows));
+      close-short = λ {ends} {rows} {s = s} w n.
+          let (o, e) = close-stays s (roomOf [] ends rows) (λ z. n (w .into .short ∙ z)) in
+          let (x, y) = leaves (w .into) o in
+          (x, y, w .into .state ∙ e);
+      close-ends = λ {ends} {rows} {s = s} w z.
+          ended-by (closed s (roomOf [] ends rows) .state) (w .into .answer) (w .into .closed) (close-ends s (roomOf [] ends rows) (sym (w .into .short) ∙ z));
+      close-room = λ {ends} {rows} {s = s} w p q. w .into .short ∙ close-room s (roomOf [] ends rows) p q;
+      close-needs-none = λ {ends = ends} {rows = rows} h a e w.
+          let (z, o) = laws.close-needs-none (comes h .stands) a e (roomOf [] ends rows) in
+          let (x, y) = leaves (w .into) o in
+          (w .into .short ∙ z, x, y);
       joined = λ h e. let c = comes h in let v = c .over (inr e) in
           let (t, r, a, x, y) = laws.stands-closed (c .stands) (sym (v .2) ∙ e) in
           (t, r, a, v .1 ∙ x, y);
@@ -118,5 +159,7 @@ streaming =
       within-limit = λ h. laws.stands-contents (comes h .stands);
       takes = λ {x} {piece} {text} {ends = ends} {rows = rows} {s = s} w o f. subst (λ (n : ℕ). 1 ≤ n) (sym (w .into .taken)) (room-takes s x piece (roomOf text ends rows) o f);
       stops = stopped;
+      stops-short = shorter;
+      goes-on = going;
       falls = falling;
     }

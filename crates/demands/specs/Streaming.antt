@@ -1,5 +1,5 @@
 -- The customer's first request over the calls, in his own words; what stands in brackets is ours. proofs/Streaming shows all of it.
-use Prim.Native.Nat.{ℕ, _≤_, _<_}
+use Prim.Native.Nat.{ℕ, _+_, _≤_, _<_}
 use mathlib.Core.Path.{_≡_}
 use mathlib.Core.Bool.{true, false}
 use mathlib.Core.List.{List, [], _∷_, _++_}
@@ -8,7 +8,7 @@ use lib.ListN.{length, take, drop}
 use Rattle.format.specs.declared.Answer.{Answer}
 use Rattle.format.specs.Table.{Bytes, Table}
 use Rattle.format.specs.Dialect.{dialect, Valid}
-use Rattle.format.specs.House.{fileLimit}
+use Rattle.format.specs.House.{EndsInBreak, fileLimit}
 use Rattle.format.specs.Memory.{textOf, endsOf, rowsOf}
 use Rattle.format.specs.Place.{nowhere}
 use Rattle.format.specs.Refusal.{Refusal}
@@ -43,6 +43,33 @@ abbrev pub Ended : Answer → ℕ → Type 0
 Ended a k = (a .refusal ≡ 0 → ⊥) ⊎ (k ≡ 1)
 
 pub record Streaming : Type 0 where
+  -- Each call gets a piece and lent room, and says how much was taken of the one and filled of the others (within what was lent).
+  pub lent :
+      {piece text text′ : Bytes} {ends rows ends′ rows′ : List ℕ} {s : Stream} {r : Streamed}
+      → Fed s piece text ends rows r text′ ends′ rows′ → (r .taken ≤ length piece) × (r .text ≤ length text) × (r .ends ≤ length ends) × (r .rows ≤ length rows)
+  -- A last call closes the file, both last ends at once; short of room it writes nothing, says so and may be repeated. (With room for one end and one row
+  -- it ends the stream; an empty file, or one that ends in a line break, needs none.)
+  pub close-short :
+      {ends rows ends′ rows′ : List ℕ} {s : Stream} {r : Streamed}
+      → Closed s ends rows r ends′ rows′ → (r .short ≡ 0 → ⊥) → (ends′ ≡ ends) × (rows′ ≡ rows) × (r .state ≡ s)
+  pub close-ends : {ends rows ends′ rows′ : List ℕ} {s : Stream} {r : Streamed} → Closed s ends rows r ends′ rows′ → r .short ≡ 0 → Ended (r .answer) (r .closed)
+  pub close-room :
+      {ends rows ends′ rows′ : List ℕ} {s : Stream} {r : Streamed} → Closed s ends rows r ends′ rows′ → 1 ≤ length ends → 1 ≤ length rows → r .short ≡ 0
+  pub close-needs-none :
+      {b sum n k : ℕ} {f : Bytes} {t : Table} {ends rows ends′ rows′ : List ℕ} {o : Out} {s : Stream} {a : Answer} {r : Streamed}
+      → Session b sum f [] o s a k → Accepted b sum f t n → (f ≡ []) ⊎ EndsInBreak f → Closed s ends rows r ends′ rows′
+      → (r .short ≡ 0) × (ends′ ≡ ends) × (rows′ ≡ rows)
+  -- A call stops early only at a refusal or before a byte whose output does not all fit. (So one with room for the whole output of the next byte takes it.)
+  pub takes :
+      {x : ℕ} {piece text text′ : Bytes} {ends rows ends′ rows′ : List ℕ} {s : Stream} {r : Streamed}
+      → Fed s (x ∷ piece) text ends rows r text′ ends′ rows′ → isOver s ≡ false
+      → fits (due (s .early) (s .check) x (fed (s .check) x)) (roomOf text ends rows) ≡ true → 1 ≤ r .taken
+  pub stops :
+      {piece text text′ : Bytes} {ends rows ends′ rows′ : List ℕ} {s : Stream} {r : Streamed}
+      → Fed s piece text ends rows r text′ ends′ rows′ → r .taken < length piece → r .short ≡ 0 → Ended (r .answer) (r .closed)
+  pub stops-short :
+      {piece text text′ : Bytes} {ends rows ends′ rows′ : List ℕ} {s : Stream} {r : Streamed}
+      → Fed s piece text ends rows r text′ ends′ rows′ → (r .short ≡ 0 → ⊥) → r .taken < length piece
   -- Joined output equals the whole reader's table, however piece and room were cut, (and the answer is the check's).
   pub joined :
       {b sum : ℕ} {f g : Bytes} {o : Out} {s : Stream} {a : Answer} {k : ℕ} → Session b sum f g o s a k → k ≡ 1
@@ -73,16 +100,12 @@ pub record Streaming : Type 0 where
       {b sum : ℕ} {f g : Bytes} {o : Out} {s : Stream} {a : Answer} {k : ℕ} → Session b sum f g o s a k → (Valid b sum → ⊥) → (f ≡ []) × (o ≡ nothing)
   -- Bytes of one field past the content limit never come out.
   pub within-limit : {b sum : ℕ} {f g : Bytes} {o : Out} {s : Stream} {a : Answer} {k : ℕ} → Session b sum f g o s a k → Contents o
-  -- A call stops early only at a refusal or before a byte whose output does not all fit. (So one with room for the whole output of the next byte takes it.)
-  pub takes :
-      {x : ℕ} {piece text text′ : Bytes} {ends rows ends′ rows′ : List ℕ} {s : Stream} {r : Streamed}
-      → Fed s (x ∷ piece) text ends rows r text′ ends′ rows′ → isOver s ≡ false
-      → fits (due (s .early) (s .check) x (fed (s .check) x)) (roomOf text ends rows) ≡ true → 1 ≤ r .taken
-  pub stops :
-      {piece text text′ : Bytes} {ends rows ends′ rows′ : List ℕ} {s : Stream} {r : Streamed}
-      → Fed s piece text ends rows r text′ ends′ rows′ → r .taken < length piece → r .short ≡ 0 → Ended (r .answer) (r .closed)
   -- (With room for one byte of text, one end and one row every call on a piece that is not empty takes a byte or puts out a held blank, so that what is left
   -- falls: such a caller always comes to the end.)
+  pub goes-on :
+      {x : ℕ} {piece text text′ : Bytes} {ends rows ends′ rows′ : List ℕ} {s : Stream} {r : Streamed}
+      → Fed s (x ∷ piece) text ends rows r text′ ends′ rows′ → isOver s ≡ false → 1 ≤ length text → 1 ≤ length ends → 1 ≤ length rows
+      → (1 ≤ r .taken) ⊎ ((1 ≤ r .text) × (r .state .early ≡ s .early + r .text))
   pub falls :
       {b sum x : ℕ} {f piece text text′ : Bytes} {ends rows ends′ rows′ : List ℕ} {o : Out} {s : Stream} {a : Answer} {k : ℕ} {r : Streamed} (g : Bytes)
       → Session b sum f ((x ∷ piece) ++ g) o s a k → Fed s (x ∷ piece) text ends rows r text′ ends′ rows′ → 1 ≤ length text → 1 ≤ length ends → 1 ≤ length rows

@@ -59,10 +59,6 @@ field-room p x l t e r h =
     let k = and-both _ _ (b .1) in
     record { order = leb-true _ _ (a .0); inside = leb-true _ _ (b .0); text-room = leb-true _ _ (k .0); end = end-room p (endOf p x) (x .row) e r (k .1) }
 
-pub room-field : (p : Head) (x : Field) (l t e r : ℕ) → FieldRoom p x l t e r → fieldFits p x l t e r ≡ true
-room-field p x l t e r h =
-    rw (le-leb (x .from) (x .to) (h .order), le-leb (x .to) l (h .inside), le-leb (endOf p x) t (h .text-room)) (room-end p (endOf p x) (x .row) e r (h .end))
-
 -- two limits are the least of them
 leb-min : (n a b : ℕ) → leb n (min a b) ≡ (leb n a && leb n b)
 leb-min n a b = go (leb n a) (leb n b) refl refl

@@ -3,7 +3,7 @@ use Prim.Native.Nat.{ℕ, _≤_, _<_}
 use native.Mathlib.Omega.{arith}
 use mathlib.Core.Path.{_≡_, refl}
 use mathlib.Core.Bool.{Bool, true, false, not, _||_, true≢false, or-true}
-use mathlib.Core.List.{List, [], _∷_, _++_, flatten}
+use mathlib.Core.List.{[], _∷_, flatten}
 use lib.Dec.{T, eqb}
 use lib.ListN.{length}
 use borrow.Author.Tests.{eqb-true, eqb-false}
@@ -12,31 +12,7 @@ use Rattle.format.specs.Dialect.{Dialect, ragged, forbidden, classOf}
 use Rattle.format.specs.House.{widthOf, differs, EqualRows, contentLimit, Fits}
 use Rattle.format.specs.Memory.{textOf}
 use Rattle.format.specs.WrittenForms.{CanHold}
-
-module _ {A : Type 0} (P : A → Type 0) where
-  every-append : (l m : List A) → Every P (l ++ m) → Every P l × Every P m
-  every-append [] m h = (tt, h)
-  every-append (a ∷ l) m h = let (x, y) = every-append l m (h .1) in ((h .0, x), y)
-
-  append-every : (l m : List A) → Every P l → Every P m → Every P (l ++ m)
-  append-every [] m h i = i
-  append-every (a ∷ l) m h i = (h .0, append-every l m (h .1) i)
-
-  -- of lists joined, and of each list
-  pub every-each : (ls : List (List A)) → Every P (flatten ls) → Every (Every P) ls
-  unfolding flatten
-  every-each [] h = tt
-  every-each (l ∷ ls) h = let (x, y) = every-append l (flatten ls) h in (x, every-each ls y)
-
-  pub each-every : (ls : List (List A)) → Every (Every P) ls → Every P (flatten ls)
-  unfolding flatten
-  each-every [] h = tt
-  each-every (l ∷ ls) h = append-every l (flatten ls) (h .0) (each-every ls (h .1))
-
-  -- a property that follows from another
-  pub every-so : (Q : A → Type 0) → ((a : A) → P a → Q a) → (l : List A) → Every P l → Every Q l
-  every-so Q f [] h = tt
-  every-so Q f (a ∷ l) h = (f a (h .0), every-so Q f l (h .1))
+use Rattle.format.proofs.Every.{every-each, each-every, every-so}
 
 none-differs : (n : ℕ) (t : Table) → None (λ cs. length cs ≡ n → ⊥) t → differs n t ≡ false
 none-differs n [] h = refl

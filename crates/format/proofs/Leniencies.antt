@@ -53,15 +53,6 @@ module _ (d : Dialect) (P : Bytes → Type 0) (step : (b : ℕ) (f : Bytes) → 
   of-file (File.ended r k) h = of-record r (of-break k h)
   of-file (File.more r k p) h = of-record r (of-break k (of-file p h))
 
--- wide bytes, one after the other
-pub wides-none : (d : Dialect) → wides d [] ≡ 0
-unfolding wides
-wides-none d = refl
-
-pub wides-more : (d : Dialect) (b : ℕ) (f : Bytes) → wides d (b ∷ f) ≡ cond (onlyWide (d .delimiterByte) b) 1 0 + wides d f
-unfolding wides
-wides-more d b f = refl
-
 -- where "bytes" is off, a file holds no wide byte
 no-wides : {d : Dialect} {f : Bytes} {t : Table} {e : Ending} → d .allows bytes ≡ false → File d f t e → wides d f ≡ 0
 unfolding wides

@@ -3,6 +3,7 @@ pub mod Demand3
 pub mod Dialects
 pub mod Ended
 pub mod Even
+pub mod Every
 pub mod Filling
 pub mod First
 pub mod Forms

@@ -41,6 +41,10 @@ module _ (s : Stream) (r : Room) where
       unfolding streamed
       streamed-stuck j = rw (h, i, j)
 
+-- a byte that shows a refusal ends the stream
+pub shown-over : (e : Check) → shown e ≡ true → isOver (onward e) ≡ true
+shown-over e h = rw h
+
 -- what a byte puts out
 pub due-is :
     (m : ℕ) (c : Check) (b : ℕ) (e : Check)

@@ -1,8 +1,8 @@
 -- Calls one after the other: what came out, joined, is what the grammar says of the bytes taken.
-use Prim.Native.Nat.{ℕ, _+_, _-_, _≤_, min}
+use Prim.Native.Nat.{ℕ, _+_, _≤_, min}
 use native.Mathlib.Omega.{arith}
 use mathlib.Core.Path.{_≡_, refl, sym, ap, subst, _∙_}
-use mathlib.Core.Bool.{Bool, true, false, not, true≢false}
+use mathlib.Core.Bool.{Bool, true, false, true≢false}
 use mathlib.Core.List.{[], _∷_, _++_, append-assoc, append-nil, flatten}
 use lib.ListN.{take, drop, replicate}
 use Rattle.format.specs.Table.{Bytes, Content}
@@ -103,11 +103,6 @@ awaits-shown (content-next s q) p = absurd (true≢false (sym p ∙ s))
 pub awaits-none : {c : Check} {m : ℕ} {g : Bytes} → Awaits c m g → g ≡ [] → m ≡ 0
 awaits-none nothing-early p = refl
 awaits-none (content-next s q) p = let z : _≡_ {A = ℕ} 0 1 = cc in absurd (omega arith)
-
-over-streamed : (s : Stream) (piece : Bytes) (r : Room) → isOver s ≡ true → streamed s piece r ≡ idle s
-unfolding streamed
-over-streamed s [] r h = refl
-over-streamed s (x ∷ f) r h = rw h
 
 -- a byte that shows a refusal; one that is taken; one whose output does not fit
 module _ (b sum : ℕ) (f g : Bytes) (o : Out) (s : Stream) (x : ℕ) (p : s .check ≡ fedAll (started b sum) f) (w : Standing b sum f (s .check) (s .early) o)

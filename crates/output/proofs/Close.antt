@@ -1,18 +1,20 @@
 -- The close: both last ends at once, and then all of the table is out.
-use Prim.Native.Nat.{ℕ, _+_, _-_, _≤_}
+use Prim.Native.Nat.{ℕ, _+_, _≤_}
 use native.Mathlib.Omega.{arith}
 use mathlib.Core.Path.{_≡_, refl, sym, ap, subst, _∙_}
 use mathlib.Core.Bool.{Bool, true, false, cond, not, true≢false}
-use mathlib.Core.List.{List, [], _∷_, _++_, append-assoc, append-nil, flatten}
-use lib.Dec.{eqb}
+use mathlib.Core.Logic.{_⊎_, inl, inr}
+use mathlib.Core.List.{List, [], _∷_, _++_, append-assoc, append-nil, append-cancel-left, flatten}
+use lib.Dec.{T, eqb}
 use lib.ListN.{length, take, length-append}
 use lib.Seq.{take-all}
 use borrow.Author.Tests.{eqb-false}
 use Rattle.format.specs.declared.Answer.{Answer}
 use Rattle.format.specs.Table.{Bytes, Content, Table, Ending, Every}
-use Rattle.format.specs.Dialect.{Dialect, dialect}
+use Rattle.format.specs.Dialect.{Dialect, dialect, delimits, Valid}
 use Rattle.format.specs.Grammar.{Blanks, Bare, Field, Record, Break, File}
-use Rattle.format.specs.House.{empty, contentLimit, Fits}
+use Rattle.format.specs.House.{empty, EndsInBreak, contentLimit, Fits}
+use Rattle.format.specs.Count.{missing}
 use Rattle.format.specs.Refusal.{Fields, Records}
 use Rattle.format.specs.Memory.{lengths, textOf, endsOf, rowsOf}
 use Rattle.format.specs.Reading.{Reading, nothing, something}
@@ -21,13 +23,16 @@ use Rattle.places.specs.Counters.{plus}
 use Rattle.pieces.specs.Asked.{asked}
 use Rattle.pieces.proofs.Asking.{LastEnds, Asks, asks}
 use Rattle.format.specs.Answer.{acceptedAs}
-use Rattle.output.specs.Out.{Out, then, outOf}
+use Rattle.output.specs.Out.{Out, nothing as none, then, outOf}
 use Rattle.format.specs.SoFar.{Begun, SoFar, so-far}
 use Rattle.output.specs.Stream.{shown, closeDue}
 use Rattle.output.specs.Promises.{wholeOut}
+use Rattle.format.proofs.Ended.{missing-ended}
+use Rattle.format.proofs.Every.{each-every, every-last}
 use Rattle.format.proofs.Grow.{blanks-join}
 use Rattle.format.proofs.Memory.{flatten-one, lengths-one}
 use Rattle.steps.proofs.Forms.{at-begun, heldIn}
+use Rattle.steps.proofs.Limits.{file-nil}
 use Rattle.steps.proofs.One.{one-so-far}
 use Rattle.output.proofs.Step.{Standing, standing, Clear, clear, then-nothing}
 
@@ -91,6 +96,23 @@ module _ (c : Check) (w : Clear c) (z : asked c .refusal ≡ 0) where
       by false e (Asks.in-record i p q (LastEnds.long l v)) = not-zero 9 refl v
       by false e (Asks.in-record i p q (LastEnds.uneven l y v)) = not-zero 10 refl v
 
+-- contents of a table that is read fit
+pub reading-fits : {d : Dialect} {f : Bytes} {t : Table} {r : ℕ} → Reading d f t r → Every Fits (flatten t)
+unfolding flatten
+reading-fits (nothing empty) = tt
+reading-fits {t = t} (something p l a q) = each-every Fits t (a .contents)
+
+-- a table by its last field
+flatten-last : (t u : Table) (cs : List Content) (c : Content) → t ≡ u ++ ((cs ++ (c ∷ [])) ∷ []) → flatten t ≡ (flatten u ++ cs) ++ (c ∷ [])
+flatten-last t u cs c e = ap flatten e ∙ (flatten-one u (cs ++ (c ∷ [])) ∙ sym (append-assoc (flatten u) cs (c ∷ [])))
+
+fields-of : (t u : Table) (cs : List Content) (c : Content) → t ≡ u ++ ((cs ++ (c ∷ [])) ∷ []) → length (flatten t) ≡ length (flatten u ++ cs) + 1
+fields-of t u cs c e = ap length (flatten-last t u cs c e) ∙ length-append (flatten u ++ cs) (c ∷ [])
+
+last-fits :
+    {d : Dialect} {f : Bytes} {t : Table} {r : ℕ} (u : Table) (cs : List Content) (c : Content) → Reading d f t r → t ≡ u ++ ((cs ++ (c ∷ [])) ∷ []) → Fits c
+last-fits {t = t} u cs c p e = every-last Fits (flatten u ++ cs) c (subst (Every Fits) (flatten-last t u cs c e) (reading-fits p))
+
 -- all of a table is out: up to its last line break, or with its last record closed
 out-whole : (t : Table) → outOf t [] [] 0 ≡ wholeOut t
 unfolding outOf flatten
@@ -106,7 +128,7 @@ unfolding outOf
 out-last t u cs c e l =
     let y = flatten u ++ cs in
     let row = cs ++ (c ∷ []) in
-    let a : flatten t ≡ y ++ (c ∷ []) = ap flatten e ∙ (flatten-one u row ∙ sym (append-assoc (flatten u) cs (c ∷ []))) in
+    let a : flatten t ≡ y ++ (c ∷ []) = flatten-last t u cs c e in
     let p : take contentLimit (c ++ []) ≡ c = ap (take contentLimit) (append-nil c) ∙ take-all contentLimit c l in
     let v : textOf t ≡ flatten y ++ c = ap flatten a ∙ flatten-one y c in
     let q : (flatten y ++ take contentLimit (c ++ [])) ++ [] ≡ textOf t =
@@ -118,22 +140,6 @@ out-last t u cs c e l =
     let w : lengths 0 u ++ (length (flatten t) ∷ []) ≡ rowsOf t =
     ap (λ (n : ℕ). lengths 0 u ++ (n ∷ [])) m ∙ (sym (lengths-one 0 u row) ∙ ap (lengths 0) (sym e)) in
     λ i. record { text = q i; ends = o i; rows = w i }
-
-every-last : {A : Type 0} (P : A → Type 0) (l : List A) (a : A) → Every P (l ++ (a ∷ [])) → P a
-every-last P [] a h = h .0
-every-last P (x ∷ l) a h = every-last P l a (h .1)
-
-reading-fits :
-    {d : Dialect} {f : Bytes} {t : Table} {r : ℕ} (u : Table) (es : List Content) (e : Content) → Reading d f t r → t ≡ u ++ ((es ++ (e ∷ [])) ∷ []) → length e ≤ contentLimit
-reading-fits [] es e (nothing empty) q = let z : _≡_ {A = ℕ} 0 1 = cc in absurd (omega arith)
-reading-fits (v ∷ u) es e (nothing empty) q = let z : _≡_ {A = ℕ} 0 1 = cc in absurd (omega arith)
-reading-fits u es e (something p l a i) q =
-    every-last Fits es e (every-last (Every Fits) u (es ++ (e ∷ [])) (subst (Every (Every Fits)) q (a .contents)))
-
-fields-of : (t : Table) (u : Table) (es : List Content) (e : Content) → t ≡ u ++ ((es ++ (e ∷ [])) ∷ []) → length (flatten t) ≡ length (flatten u ++ es) + 1
-fields-of t u es e q =
-    ap (λ (l : Table). length (flatten l)) q
-    ∙ (ap length (flatten-one u (es ++ (e ∷ []))) ∙ (ap length (sym (append-assoc (flatten u) es (e ∷ []))) ∙ length-append (flatten u ++ es) (e ∷ [])))
 
 pub closing-out :
     {b sum : ℕ} {f : Bytes} {c : Check} {o : Out} (t : Table) (r : ℕ) → Standing b sum f c 0 o → shown c ≡ false → Reading (dialect b sum) f t r
@@ -170,4 +176,38 @@ closing-out {b} {sum} {f} {c} {o} t r (standing {k} {t = u} {cs} {c = e} {n} {g}
     by false i (in-record u′ es e′ m j v) =
         let z = one-so-far (dialect b sum) ours v in
         ap (λ (p : Out). then p (record { text = []; ends = length (textOf t) ∷ []; rows = length (flatten t) ∷ [] })) (q ∙ λ j. outOf (z .0 j) (z .1 j) (z .2 j) 0)
-        ∙ out-last t u′ es e′ j (reading-fits u′ es e′ p j)
+        ∙ out-last t u′ es e′ j (last-fits u′ es e′ p j)
+
+-- A file that is empty, or ends in a line break: all of its table is out before the close, which has nothing to put out.
+module _ (d : Dialect) (valid : T (delimits (d .delimiterByte))) where
+  broken-far : {f : Bytes} {t : Table} {e : Ending} → missing e ≡ 0 → File d f t e → SoFar d f t [] [] 0
+  broken-far z (File.one r) = absurd (omega (arith, z))
+  broken-far z (File.ended r k) = so-far (Records.more r k Records.none) Fields.none (Begun.empty Blanks.none)
+  broken-far z (File.more r k p) = more r k (broken-far z p)
+    where
+      more : {f g h : Bytes} {cs : List Content} {t : Table} → Record d f cs g → Break d g h → SoFar d h t [] [] 0 → SoFar d f (cs ∷ t) [] [] 0
+      more r k (so-far x y z) = so-far (Records.more r k x) y z
+
+  reading-far : {f : Bytes} {t : Table} {r : ℕ} → (f ≡ []) ⊎ EndsInBreak f → Reading d f t r → SoFar d f t [] [] 0
+  reading-far h (nothing empty) = so-far Records.none Fields.none (Begun.empty Blanks.none)
+  reading-far {t = t} (inl e) (something {e = i} p l a q) = absurd (file-nil (subst (λ (f : Bytes). File d f t i) e p) l)
+  reading-far (inr e) (something p l a q) = broken-far (missing-ended d valid l p .1 e) p
+
+-- what is behind something that is whole already
+then-same : (o p : Out) → then o p ≡ o → p ≡ none
+then-same o p e =
+    λ i. record {
+      text = append-cancel-left (o .text) (p .text) [] (ap (λ (x : Out). x .text) e ∙ sym (append-nil (o .text))) i;
+      ends = append-cancel-left (o .ends) (p .ends) [] (ap (λ (x : Out). x .ends) e ∙ sym (append-nil (o .ends))) i;
+      rows = append-cancel-left (o .rows) (p .rows) [] (ap (λ (x : Out). x .rows) e ∙ sym (append-nil (o .rows))) i;
+    }
+
+pub none-left :
+    {b sum : ℕ} {f : Bytes} {c : Check} {o : Out} (t : Table) (r : ℕ) → Standing b sum f c 0 o → shown c ≡ false → Valid b sum → Reading (dialect b sum) f t r
+    → asked c ≡ acceptedAs t r → (f ≡ []) ⊎ EndsInBreak f → closeDue c (acceptedAs t r) ≡ none
+none-left {b} {sum} {f} {c} {o} t r w s v p a h = then-same o (closeDue c (acceptedAs t r)) (closing-out t r w s p a ∙ sym (whole w))
+  where
+    whole : Standing b sum f c 0 o → o ≡ wholeOut t
+    whole (standing w l q) =
+        let z = one-so-far (dialect b sum) (so-far (w .records) (w .fields) (at-begun (w .at))) (reading-far (dialect b sum) (v .0) h p) in
+        q ∙ ((λ j. outOf (z .0 j) (z .1 j) (z .2 j) 0) ∙ out-whole t)

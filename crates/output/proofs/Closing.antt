@@ -76,8 +76,11 @@ abbrev pub told : Stream → ℕ → ℕ → ℕ → Streamed
 told s ends rows n =
     record { state = s; taken = 0; text = 0; ends = ends; rows = rows; short = n; closed = closedBy s; answer = answerOf s }
 
-quiet-into : {c : Called} {ends rows : List ℕ} {r : Streamed} (s : Stream) (n : ℕ) → c ≡ quiet s n → r ≡ told s 0 0 n → Into c [] ends rows r [] ends rows
-quiet-into s n e q =
+told-into :
+    {c : Called} {ends rows ends′ rows′ : List ℕ} {r : Streamed} (s : Stream) (n : ℕ) (x y : List ℕ)
+    → c ≡ record { taken = 0; out = record { text = []; ends = x; rows = y }; short = n; state = s } → r ≡ told s (length x) (length y) n
+    → ends′ ≡ over x ends → rows′ ≡ over y rows → Into c [] ends rows r [] ends′ rows′
+told-into s n x y e q i j =
     rw (e, q)
     (record {
       state = refl;
@@ -89,9 +92,12 @@ quiet-into s n e q =
       ends-count = refl;
       rows-count = refl;
       text-is = refl;
-      ends-is = refl;
-      rows-is = refl;
+      ends-is = i;
+      rows-is = j;
     })
+
+quiet-into : {c : Called} {ends rows : List ℕ} {r : Streamed} (s : Stream) (n : ℕ) → c ≡ quiet s n → r ≡ told s 0 0 n → Into c [] ends rows r [] ends rows
+quiet-into s n e q = told-into s n [] [] e q refl refl
 
 set-front : (l : List ℕ) (n : ℕ) → (length l ≡ 0 → ⊥) → set l 0 n ≡ over (n ∷ []) l
 set-front [] n h = absurd (h refl)
@@ -119,17 +125,5 @@ module _ (s : Stream) (ends rows : List ℕ) {r : Streamed} where
           → Closed s ends rows r (set ends 0 (a .totals .text)) (set rows 0 (a .totals .fields .0))
       close-full j k p q =
           so-closed
-          (rw (closed-full s (roomOf [] ends rows) a e h i j k, q, p)
-          (record {
-            state = refl;
-            taken = refl;
-            short = refl;
-            closed = refl;
-            answer = refl;
-            text-count = refl;
-            ends-count = refl;
-            rows-count = refl;
-            text-is = refl;
-            ends-is = set-front ends (a .totals .text) j;
-            rows-is = set-front rows (a .totals .fields .0) k;
-          }))
+          (told-into (ended s) 0 (a .totals .text ∷ []) (a .totals .fields .0 ∷ []) (closed-full s (roomOf [] ends rows) a e h i j k)
+          (q ∙ ap (λ (x : Stream). told x 1 1 0) p) (set-front ends (a .totals .text) j) (set-front rows (a .totals .fields .0) k))

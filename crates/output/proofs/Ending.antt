@@ -21,6 +21,7 @@ use Rattle.output.specs.Stream.{shown, isOver, putsText, due, Room, fits
 use Rattle.output.specs.Promises.{Awaits, nothing-early, content-next}
 use Rattle.output.proofs.Step.{clear}
 use Rattle.output.proofs.Meaning.{shown-before}
+use Rattle.output.proofs.Bytewise.{shown-over}
 use Rattle.output.proofs.Progress.{stuck-some}
 
 -- what a byte does to the blanks held: at most one more, and none behind content
@@ -52,9 +53,6 @@ held-fed c b s = by (actOf c b) (step-proper _ _ _) (fed-does c b (clear c (show
 
 abbrev Rests : ℕ → Bytes → Called → Type 0
 Rests n f c = (isOver (c .state) ≡ true) ⊎ (leftOf (c .state) (drop (c .taken) f) ≤ n)
-
-shown-over : (e : Check) → shown e ≡ true → isOver (onward e) ≡ true
-shown-over e h = rw h
 
 rests : (f : Bytes) (s : Stream) (r : Room) → s .early ≡ 0 → Rests (2 * length f + s .check .field .held) f (streamed s f r)
 unfolding streamed

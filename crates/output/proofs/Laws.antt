@@ -1,11 +1,10 @@
 -- The laws for a caller.
-use Prim.Native.Nat.{ℕ, _+_, _-_}
+use Prim.Native.Nat.{ℕ}
 use native.Mathlib.Omega.{arith}
 use mathlib.Core.Path.{_≡_, refl, sym, ap, subst, _∙_}
 use mathlib.Core.Bool.{Bool, true, false, cond, or-true, true≢false}
-use mathlib.Core.List.{[], _++_}
+use mathlib.Core.List.{[]}
 use lib.Dec.{eqb}
-use lib.ListN.{take, drop}
 use borrow.Author.Tests.{ne-eqb}
 use Rattle.format.specs.declared.Answer.{Answer}
 use Rattle.format.specs.Table.{Bytes, Table}
@@ -28,10 +27,10 @@ use Rattle.state.proofs.Parts.{started-is}
 use Rattle.output.specs.declared.Stream.{Stream}
 use Rattle.output.specs.Out.{Out, nothing, then, CameOut}
 use Rattle.output.specs.Stream.{shown, isOver, Room, fits, Called, streamStarted, closeDue, closed, answerOf}
-use Rattle.output.specs.Promises.{Awaits, nothing-early, wholeOut, Stands, no-dialect, going, refused, declined, accepted, Calls}
+use Rattle.output.specs.Promises.{Awaits, nothing-early, wholeOut, Stands, no-dialect, going, refused, declined, accepted}
 use Rattle.output.proofs.Step.{Standing, not-shown, then-nothing}
 use Rattle.output.proofs.Close.{closing-out}
-use Rattle.output.proofs.Calls.{going-over, standing-out, started-standing, Inv, inv-going, inv-over, inv-stands, awaits-none, feed-inv}
+use Rattle.output.proofs.Calls.{going-over, standing-out, started-standing, Inv, inv-going, inv-over, awaits-none}
 
 -- what the check says of the bytes taken
 pub check-answers : (b sum : ℕ) (f : Bytes) (c : Check) → c ≡ fedAll (started b sum) f → Answers b sum f (asked c)
@@ -95,16 +94,6 @@ start-inv b sum g = by (isValid b sum) refl
     by : (x : Bool) → isValid b sum ≡ x → Inv b sum [] g nothing (streamStarted b sum)
     by true e = inv-going (sym (fed-none (started b sum))) (shown-start b sum e) refl (started-standing b sum) nothing-early
     by false e = inv-over (over-start b sum e) (λ g. no-dialect (λ v. true≢false (sym (valid-yes b sum v) ∙ e)) refl refl)
-
--- calls by the rule: what is out is the grammar's
-calls-inv : {b sum : ℕ} {f g : Bytes} {o : Out} {s : Stream} → Calls b sum f g o s → Inv b sum f g o s
-calls-inv {b} {sum} (Calls.start g) = start-inv b sum g
-calls-inv {b} {sum} (Calls.feed {f} {o} {s} piece g r c h e) =
-    subst (λ (c : Called). Inv b sum (f ++ take (c .taken) piece) (drop (c .taken) piece ++ g) (then o (c .out)) (c .state)) (sym e) (feed-inv piece g r (calls-inv h))
-calls-inv {b} {sum} (Calls.close {f} {o} r c h e) = subst (Left b sum f o) (sym e) (close-inv r (calls-inv h))
-
-pub calls-stand : {b sum : ℕ} {f g : Bytes} {o : Out} {s : Stream} → Calls b sum f g o s → Stands b sum f g o s
-calls-stand h = inv-stands (calls-inv h)
 
 -- a refusal that is shown is the answer
 pub shown-refused : (c : Check) → shown c ≡ true → asked c .refusal ≡ 0 → ⊥

@@ -2,29 +2,23 @@
 use Prim.Native.Nat.{ℕ, suc, _+_, _-_, _≤_, _<_, min}
 use native.Mathlib.Omega.{arith}
 use mathlib.Core.Path.{_≡_, refl, sym, ap}
-use mathlib.Core.Bool.{Bool, true, false, cond, not, _&&_}
+use mathlib.Core.Bool.{Bool, true, false, cond, not, _&&_, or-true}
 use mathlib.Core.Logic.{_⊎_, inl, inr}
 use mathlib.Core.List.{[], _∷_}
-use lib.Dec.{leb}
+use lib.Dec.{eqb, leb}
 use lib.ListN.{length, replicate, length-append, length-replicate}
-use borrow.Author.Tests.{leb-true, leb-false, le-leb}
+use borrow.Author.Tests.{leb-false, le-leb}
+use Rattle.format.specs.declared.Answer.{Answer}
 use Rattle.format.specs.Table.{Bytes}
 use Rattle.format.specs.House.{contentLimit}
 use Rattle.format.proofs.Classes.{decide}
 use Rattle.state.specs.declared.Check.{Check}
 use Rattle.state.specs.Check.{fed}
+use Rattle.pieces.specs.Asked.{asked}
 use Rattle.output.specs.declared.Stream.{Stream}
-use Rattle.output.specs.Out.{Out}
-use Rattle.output.specs.Stream.{shown, isOver, putsText, endsField, endsRecord, byteLeft, when, blanksDue, due, Room, fits, left, shortOf, Called, onward, taking, streamed}
-
--- a byte is taken, or a held blank that was not out comes out
-pub record BlankOut (s : Stream) (c : Called) : Type 0 where
-  pub some : 1 ≤ length (c .out .text)
-  pub counted : c .state .early ≡ s .early + length (c .out .text)
-  pub held : c .state .early ≤ s .check .field .held
-
-abbrev GoesOn : Stream → Called → Type 0
-GoesOn s c = (1 ≤ c .taken) ⊎ BlankOut s c
+use Rattle.output.specs.Out.{Out, nothing}
+use Rattle.output.specs.Stream.{shown, isOver, putsText, endsField, endsRecord, byteLeft, when, blanksDue, due, Room, fits, left, shortOf, Called, onward, taking, streamed, closeDue, closed}
+use Rattle.output.proofs.Bytewise.{shown-over, fits-parts}
 
 one-most : (x : Bool) (n : ℕ) → length (when x n) ≤ 1
 one-most true n = omega arith
@@ -59,6 +53,23 @@ short-text o r h p q =
     by true e h = let i : _≡_ {A = ℕ} 0 1 = cc in absurd (omega arith)
     by false e h = leb-false (length (o .text)) (r .text) e
 
+-- where a call sticks with such room, a held blank comes out
+pub stuck-some :
+    (m : ℕ) (c : Check) (b : ℕ) (e : Check) (r : Room) → fits (due m c b e) r ≡ false → 1 ≤ r .text → 1 ≤ r .ends → 1 ≤ r .rows
+    → (1 ≤ min (blanksDue m c e) (r .text)) × (m + min (blanksDue m c e) (r .text) ≤ c .field .held)
+stuck-some m c b e r j x y z =
+    let u = due-ends m c b e in
+    let u₀ = u .0 in
+    let u₁ = u .1 in
+    let v = due-text m c b e in
+    let w = short-text (due m c b e) r j (omega arith) (omega arith) in
+    let some : 1 ≤ min (blanksDue m c e) (r .text) = omega arith in
+    (some, blanks-held m c e (min (blanksDue m c e) (r .text)) some (omega arith))
+
+-- a byte is taken, or held blanks come out that were not out yet
+abbrev GoesOn : Stream → Called → Type 0
+GoesOn s c = (1 ≤ c .taken) ⊎ ((1 ≤ length (c .out .text)) × (c .state .early ≡ s .early + length (c .out .text)))
+
 pub goes-on :
     (s : Stream) (b : ℕ) (f : Bytes) (r : Room) → isOver s ≡ false → 1 ≤ r .text → 1 ≤ r .ends → 1 ≤ r .rows → GoesOn s (streamed s (b ∷ f) r)
 unfolding streamed
@@ -67,18 +78,12 @@ goes-on s b f r h x y z =
     (decide (GoesOn s) (shown (fed (s .check) b)) (λ i. inl (omega arith))
     (λ i.
     let e : Check = fed (s .check) b in
-    let o : Out = due (s .early) (s .check) b e in
-    decide (GoesOn s) (fits o r) (λ j. inl (omega arith))
+    decide (GoesOn s) (fits (due (s .early) (s .check) b e) r) (λ j. inl (omega arith))
     (λ j.
     let k : ℕ = min (blanksDue (s .early) (s .check) e) (r .text) in
-    let u = due-ends (s .early) (s .check) b e in
-    let u₀ = u .0 in
-    let u₁ = u .1 in
-    let v = due-text (s .early) (s .check) b e in
-    let w = short-text o r j (omega arith) (omega arith) in
     let l : length {A = ℕ} (replicate k 0x20) ≡ k = length-replicate k 0x20 in
-    let some : 1 ≤ k = omega arith in
-    inr (record { some = omega arith; counted = ap (λ (n : ℕ). s .early + n) (sym l); held = blanks-held (s .early) (s .check) e k some (omega arith) }))))
+    let w = stuck-some (s .early) (s .check) b e r j x y z .0 in
+    inr (omega arith, ap (λ (n : ℕ). s .early + n) (sym l)))))
 
 -- a call with room for the whole output of the next byte takes it
 pub room-takes :
@@ -118,9 +123,6 @@ stops-for (b ∷ f) s r =
     decide (Stops (b ∷ f)) (fits o r)
     (λ j. stops-more b f o (streamed (onward (fed (s .check) b)) f (left o r)) (stops-for f (onward (fed (s .check) b)) (left o r)))
     (λ j. lacking (lacks o r j))))
-  where
-    shown-over : (e : Check) → shown e ≡ true → isOver (onward e) ≡ true
-    shown-over e h = rw h
 
 -- Nothing is put out beyond the room, nor taken beyond the piece.
 pub record Within (piece : Bytes) (r : Room) (c : Called) : Type 0 where
@@ -128,18 +130,6 @@ pub record Within (piece : Bytes) (r : Room) (c : Called) : Type 0 where
   pub text : length (c .out .text) ≤ r .text
   pub ends : length (c .out .ends) ≤ r .ends
   pub rows : length (c .out .rows) ≤ r .rows
-
-fits-true : (o : Out) (r : Room) → fits o r ≡ true → (length (o .text) ≤ r .text) × (length (o .ends) ≤ r .ends) × (length (o .rows) ≤ r .rows)
-unfolding fits
-fits-true o r = by (leb (length (o .text)) (r .text)) refl (leb (length (o .ends)) (r .ends)) refl (leb (length (o .rows)) (r .rows)) refl
-  where
-    by :
-        (x : Bool) → leb (length (o .text)) (r .text) ≡ x → (y : Bool) → leb (length (o .ends)) (r .ends) ≡ y → (z : Bool) → leb (length (o .rows)) (r .rows) ≡ z
-        → (x && (y && z)) ≡ true → (length (o .text) ≤ r .text) × (length (o .ends) ≤ r .ends) × (length (o .rows) ≤ r .rows)
-    by true p true q true u h = (leb-true (length (o .text)) (r .text) p, leb-true (length (o .ends)) (r .ends) q, leb-true (length (o .rows)) (r .rows) u)
-    by true p true q false u h = let i : _≡_ {A = ℕ} 0 1 = cc in absurd (omega arith)
-    by true p false q z u h = let i : _≡_ {A = ℕ} 0 1 = cc in absurd (omega arith)
-    by false p y q z u h = let i : _≡_ {A = ℕ} 0 1 = cc in absurd (omega arith)
 
 within-more :
     (b : ℕ) (f : Bytes) (o : Out) (r : Room) (c : Called) → (length (o .text) ≤ r .text) × (length (o .ends) ≤ r .ends) × (length (o .rows) ≤ r .rows)
@@ -168,7 +158,7 @@ stays-within (b ∷ f) s r =
     (λ i.
     let o : Out = due (s .early) (s .check) b (fed (s .check) b) in
     decide (Within (b ∷ f) r) (fits o r)
-    (λ j. within-more b f o r (streamed (onward (fed (s .check) b)) f (left o r)) (fits-true o r j) (stays-within f (onward (fed (s .check) b)) (left o r)))
+    (λ j. within-more b f o r (streamed (onward (fed (s .check) b)) f (left o r)) (fits-parts o r j) (stays-within f (onward (fed (s .check) b)) (left o r)))
     (λ j.
     let k : ℕ = min (blanksDue (s .early) (s .check) (fed (s .check) b)) (r .text) in
     let l : length {A = ℕ} (replicate k 0x20) ≡ k = length-replicate k 0x20 in
@@ -194,15 +184,35 @@ short-stops (b ∷ f) s r =
     more o c (inl e) = inl e
     more o c (inr l) = inr (omega arith)
 
--- where a call sticks with such room, a held blank comes out
-pub stuck-some :
-    (m : ℕ) (c : Check) (b : ℕ) (e : Check) (r : Room) → fits (due m c b e) r ≡ false → 1 ≤ r .text → 1 ≤ r .ends → 1 ≤ r .rows
-    → (1 ≤ min (blanksDue m c e) (r .text)) × (m + min (blanksDue m c e) (r .text) ≤ c .field .held)
-stuck-some m c b e r j x y z =
-    let u = due-ends m c b e in
-    let u₀ = u .0 in
-    let u₁ = u .1 in
-    let v = due-text m c b e in
-    let w = short-text (due m c b e) r j (omega arith) (omega arith) in
-    let some : 1 ≤ min (blanksDue m c e) (r .text) = omega arith in
-    (some, blanks-held m c e (min (blanksDue m c e) (r .text)) some (omega arith))
+-- A close that is short of room changes nothing; one that is not ends the stream, as it does with room for one end and one row.
+module _ (s : Stream) (r : Room) where
+  pub close-stays : (closed s r .short ≡ 0 → ⊥) → (closed s r .out ≡ nothing) × (closed s r .state ≡ s)
+  unfolding closed
+  close-stays =
+      decide Stays (isOver s) (λ h n. (refl, refl))
+      (λ h. decide Stays (fits (closeDue (s .check) (asked (s .check))) r) (λ i n. absurd (n refl)) (λ i n. (refl, refl)))
+    where
+      Stays : Called → Type 0
+      Stays c = (c .short ≡ 0 → ⊥) → (c .out ≡ nothing) × (c .state ≡ s)
+
+  pub close-ends : closed s r .short ≡ 0 → isOver (closed s r .state) ≡ true
+  unfolding closed
+  close-ends =
+      decide Ends (isOver s) (λ h n. h)
+      (λ h. let o : Out = closeDue (s .check) (asked (s .check)) in
+      decide Ends (fits o r) (λ i n. or-true (shown (s .check))) (λ i n. let l = lacks o r i in absurd (omega arith)))
+    where
+      Ends : Called → Type 0
+      Ends c = c .short ≡ 0 → isOver (c .state) ≡ true
+
+  due-one : (c : Check) (a : Answer) → 1 ≤ r .ends → 1 ≤ r .rows → fits (closeDue c a) r ≡ true
+  unfolding closeDue fits
+  due-one c a x y =
+      let z : Bool = eqb (a .refusal) 0 && not (eqb (c .begun) 0) in
+      let u = one-most z (a .totals .text) in
+      let v = one-most z (a .totals .fields .0) in
+      rw (le-leb 0 (r .text) (omega arith), le-leb (length (when z (a .totals .text))) (r .ends) (omega arith), le-leb (length (when z (a .totals .fields .0))) (r .rows) (omega arith))
+
+  pub close-room : 1 ≤ r .ends → 1 ≤ r .rows → closed s r .short ≡ 0
+  unfolding closed
+  close-room x y = rw (due-one (s .check) (asked (s .check)) x y) (decide (λ (c : Called). c .short ≡ 0) (isOver s) (λ h. refl) (λ h. refl))

@@ -26,19 +26,11 @@ use Rattle.output.specs.Out.{Out, outOf, CameOut, came-out}
 use Rattle.format.specs.SoFar.{so-far}
 use Rattle.output.specs.Stream.{shown}
 use Rattle.format.proofs.Even.{uneven}
+use Rattle.format.proofs.Every.{every-append, every-each, every-one}
 use Rattle.steps.proofs.Forms.{At, at-quoted, at-cr, at-begun, Makes, makes, Fault, behind, within, at-field}
 use Rattle.format.proofs.Grow.{fields-grow, records-grow, fields-record, field-cut, fields-cut, records-cut}
 use Rattle.output.proofs.Close.{field-begun}
-use Rattle.output.proofs.Step.{Fresh, Known, Clear, not-shown, row-number, every-one, does}
-
-every-parts : {A : Type 0} (P : A → Type 0) (l k : List A) → Every P (l ++ k) → Every P l × Every P k
-every-parts P [] k h = (tt, h)
-every-parts P (a ∷ l) k h = let z = every-parts P l k (h .1) in ((h .0, z .0), z .1)
-
-every-flat : {A : Type 0} (P : A → Type 0) (t : List (List A)) → Every P (flatten t) → Every (Every P) t
-unfolding flatten
-every-flat P [] h = tt
-every-flat P (l ∷ t) h = let z = every-parts P l (flatten t) h in (z .0, every-flat P t (z .1))
+use Rattle.output.proofs.Step.{Fresh, Known, Clear, not-shown, row-number, does}
 
 -- a refusal of the file f, the bytes before the place where it is found, and what they put out
 pub record FoundAt (d : Dialect) (f : Bytes) (o : Out) : Type 0 where
@@ -76,10 +68,10 @@ module _
     d = dialect x sum
 
     allowed : Allowed (dialect x sum) t
-    allowed = record { rows = w .even; contents = every-flat Fits t (every-parts Fits (flatten t) cs (w .fits) .0) }
+    allowed = record { rows = w .even; contents = every-each Fits t (every-append Fits (flatten t) cs (w .fits) .0) }
 
     fitting : Every Fits cs
-    fitting = every-parts Fits (flatten t) cs (w .fits) .1
+    fitting = every-append Fits (flatten t) cs (w .fits) .1
 
     here : CameOut (dialect x sum) f 0 (outOf t cs c 0)
     here = came-out (so-far (w .records) (w .fields) (at-begun (w .at))) (omega arith) refl

@@ -8,13 +8,13 @@ use mathlib.Core.List.{List, [], _∷_, _++_, append-nil, flatten}
 use lib.Dec.{eqb}
 use lib.ListN.{length, take, drop, replicate, length-take}
 use lib.Seq.{take-append-seam}
-use borrow.Author.Tests.{eqb-true, eqb-false}
+use borrow.Author.Tests.{eqb-true, eqb-false, le-leb}
 use Rattle.format.specs.declared.Answer.{Answer}
 use Rattle.format.specs.Table.{Bytes, Content, Table, Every}
-use Rattle.format.specs.Dialect.{Dialect, Valid}
-use Rattle.format.specs.House.{empty, contentLimit, Fits}
+use Rattle.format.specs.Dialect.{Valid}
+use Rattle.format.specs.House.{EndsInBreak, contentLimit, Fits}
 use Rattle.format.specs.Filling.{over}
-use Rattle.format.specs.Reading.{Reading, nothing as no-records, something, Accepted, Refused}
+use Rattle.format.specs.Reading.{Accepted, Refused}
 use Rattle.format.specs.Answer.{acceptedAs, refusedBy}
 use Rattle.format.specs.Place.{nowhere}
 use Rattle.format.proofs.Memory.{lengths-none}
@@ -26,14 +26,18 @@ use Rattle.state.specs.Check.{started, fedAll}
 use Rattle.state.proofs.Moves.{fed-all-keeps, start-bytes}
 use Rattle.pieces.specs.Asked.{asked}
 use Rattle.pieces.specs.Answers.{Answers}
+use Rattle.pieces.proofs.Stands.{one-answer}
 use Rattle.output.specs.declared.Stream.{Stream}
 use Rattle.output.specs.declared.Streamed.{Streamed}
 use Rattle.output.specs.Out.{Out, nothing, outOf, Contents}
-use Rattle.output.specs.Stream.{shown, isOver, Called, answerOf, closedBy}
+use Rattle.output.specs.Stream.{shown, isOver, Room, fits, Called, closeDue, closed, answerOf, closedBy}
 use Rattle.output.specs.Promises.{Awaits, nothing-early, content-next, wholeOut, Stands, no-dialect, going, refused, declined, accepted, Into}
 use Rattle.output.proofs.Step.{Standing, standing, clear}
-use Rattle.output.proofs.Laws.{asked-is, shown-refused, answer-is-check, joined-is-table}
-use Rattle.output.proofs.Meaning.{came-standing, invalid-over, closed-over as ended-over}
+use Rattle.output.proofs.Calls.{Inv, inv-going, inv-over, going-over, awaits-none}
+use Rattle.output.proofs.Close.{reading-fits, none-left}
+use Rattle.output.proofs.Laws.{asked-is, shown-refused, check-answers, answer-is-check, joined-is-table}
+use Rattle.output.proofs.Meaning.{came-standing, stands-inv, invalid-over, closed-over as ended-over}
+use Rattle.output.proofs.Closing.{closed-over as is-over}
 
 -- A stream is over exactly if its answer refuses or a close was accepted.
 module _ (s : Stream) where
@@ -126,20 +130,6 @@ out-contents t cs c m f =
 standing-contents : {x sum m : ℕ} {f : Bytes} {e : Check} {o : Out} → Standing x sum f e m o → Contents o
 standing-contents {m = m} (standing {t = t} {cs} {c} w l q) = subst Contents (sym q) (out-contents t cs c m (w .fits))
 
-every-join : {A : Type 0} (P : A → Type 0) (l k : List A) → Every P l → Every P k → Every P (l ++ k)
-every-join P [] k h i = i
-every-join P (a ∷ l) k h i = (h .0, every-join P l k (h .1) i)
-
-every-flatten : {A : Type 0} (P : A → Type 0) (t : List (List A)) → Every (Every P) t → Every P (flatten t)
-unfolding flatten
-every-flatten P [] h = tt
-every-flatten P (l ∷ t) h = every-join P l (flatten t) (h .0) (every-flatten P t (h .1))
-
-reading-fits : {d : Dialect} {r : ℕ} {f : Bytes} {t : Table} → Reading d f t r → Every Fits (flatten t)
-unfolding flatten
-reading-fits (no-records empty) = tt
-reading-fits {t = t} (something p l a q) = every-flatten Fits t (a .contents)
-
 table-contents : (t : Table) → Every Fits (flatten t) → Contents (wholeOut t)
 table-contents t f =
     record { whole = flatten t; last = []; text-is = sym (append-nil (flatten (flatten t))); ends-are = refl; fit = f; cut = omega arith }
@@ -164,3 +154,20 @@ stands-awaits (going p q c o a) = inr (next a)
 stands-awaits {s = s} (refused e x i j p q o) = inl (rw q)
 stands-awaits {s = s} (declined p q c h o) = inl (ended-over s c)
 stands-awaits {s = s} (accepted p c h o) = inl (ended-over s c)
+
+-- A file that is empty, or ends in a line break, needs no room at its close.
+none-due : (s : Stream) (r : Room) (x : Answer) → asked (s .check) ≡ x → closeDue (s .check) x ≡ nothing → isOver s ≡ false → (closed s r .short ≡ 0) × (closed s r .out ≡ nothing)
+unfolding closed fits
+none-due s r x i j k = rw (k, i, j, le-leb 0 (r .text) (omega arith), le-leb 0 (r .ends) (omega arith), le-leb 0 (r .rows) (omega arith)) (refl, refl)
+
+pub close-needs-none :
+    {b sum n : ℕ} {f : Bytes} {o : Out} {s : Stream} {t : Table} → Stands b sum f [] o s → Accepted b sum f t n → (f ≡ []) ⊎ EndsInBreak f → (r : Room)
+    → (closed s r .short ≡ 0) × (closed s r .out ≡ nothing)
+close-needs-none {b} {sum} {n} {f} {o} {s} {t} h a e r = by (stands-inv h)
+  where
+    by : Inv b sum f [] o s → (closed s r .short ≡ 0) × (closed s r .out ≡ nothing)
+    by (inv-over i k) = rw (is-over s r i) (refl, refl)
+    by (inv-going p q c w x) =
+        let i = one-answer (check-answers b sum f (s .check) p) (Answers.accepted a) in
+        let w₀ = subst (λ (m : ℕ). Standing b sum f (s .check) m o) (awaits-none x refl) w in
+        none-due s r (acceptedAs t n) i (none-left t n w₀ q (a .valid) (a .reading) i e) (going-over s q c)

@@ -28,6 +28,7 @@ use Rattle.output.specs.Out.{Out, then, outOf}
 use Rattle.output.specs.Stream.{shown, putsText, endsField, byteLeft, when, blanksDue, due}
 use Rattle.steps.proofs.Forms.{At, at-start, at-lead, at-bare, at-quoted, at-shut, at-tail, at-cr, heldIn, Makes, makes, fault-number}
 use Rattle.format.proofs.Even.{width-more, even-more}
+use Rattle.format.proofs.Every.{every-one}
 use Rattle.format.proofs.Grow.{fields-grow, records-grow, fields-more, records-more, fields-record}
 use Rattle.format.proofs.Memory.{flatten-one, lengths-one}
 use Rattle.output.proofs.Lists.{text-left, blanks-left}
@@ -90,10 +91,6 @@ not-shown c p q r = let q′ = le-leb (c .here .byte .0) fileLimit q in rw (p, q
 
 snoc-length : (s : Bytes) (b : ℕ) → length (s ++ (b ∷ [])) ≡ length s + 1
 snoc-length s b = length-append s (b ∷ [])
-
-pub every-one : {A : Type 0} (P : A → Type 0) (l : List A) (a : A) → Every P l → P a → Every P (l ++ (a ∷ []))
-every-one P [] a h p = (p, tt)
-every-one P (y ∷ l) a h p = (h .0, every-one P l a (h .1) p)
 
 fresh-more : (g : Bytes) (b : ℕ) → Fresh 1 (g ++ (b ∷ []))
 fresh-more [] b = some

@@ -45,15 +45,6 @@ pub data Stands (b sum : ℕ) : Bytes → Bytes → Out → Stream → Type 0 wh
   accepted : {r : ℕ} {t : Table} {f g : Bytes} {o : Out} {s : Stream}
       → s .check ≡ fedAll (started b sum) f → s .closed ≡ 1 → Accepted b sum f t r → o ≡ wholeOut t → Stands b sum f g o s
 
--- Calls on one stream, one after the other, by the rule: each piece is a beginning of the bytes not yet taken, and none is left at a close.
--- `Calls b sum f g o s`: of the file f ++ g the bytes f are taken, o is what came out, joined, and s is the state.
-pub data Calls (b sum : ℕ) : Bytes → Bytes → Out → Stream → Type 0 where
-  start : (f : Bytes) → Calls b sum [] f nothing (streamStarted b sum)
-  feed : {f : Bytes} {o : Out} {s : Stream} (piece g : Bytes) (r : Room) (c : Called)
-      → Calls b sum f (piece ++ g) o s → c ≡ streamed s piece r → Calls b sum (f ++ take (c .taken) piece) (drop (c .taken) piece ++ g) (then o (c .out)) (c .state)
-  close : {f : Bytes} {o : Out} {s : Stream} (r : Room) (c : Called)
-      → Calls b sum f [] o s → c ≡ closed s r → Calls b sum f [] (then o (c .out)) (c .state)
-
 -- A call as the code gives it: what is filled is counted, and what came out stands over the front of each buffer, the rest of which stays.
 pub record Into (c : Called) (text : Bytes) (ends rows : List ℕ) (r : Streamed) (text′ : Bytes) (ends′ rows′ : List ℕ) : Type 0 where
   pub state : r .state ≡ c .state

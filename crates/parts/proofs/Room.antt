@@ -5,7 +5,6 @@ use mathlib.Core.Path.{_≡_}
 use mathlib.Core.Bool.{Bool, true, false, _||_, true≢false}
 use Rattle.format.specs.House.{fileLimit}
 use Rattle.places.specs.Counters.{counterLimit}
-use Rattle.taking.specs.Walk.{one}
 use mir.Syntax.{w32, w64}
 use mir.Val.{Fits}
 

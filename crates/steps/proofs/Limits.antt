@@ -270,7 +270,7 @@ data Opens (d : Dialect) (w : Width) : ℕ → Bytes → Judged → Type 0 where
 
 module _ {d : Dialect} where
   -- no file of records is empty
-  file-nil : {t : Table} {e : Ending} → File d [] t e → LastBreak e → ⊥
+  pub file-nil : {t : Table} {e : Ending} → File d [] t e → LastBreak e → ⊥
   file-nil (File.one r) l = l
   file-nil (File.ended r k) l = break-nil d k (record-nil d r)
   file-nil (File.more r k p) l = break-nil d k (record-nil d r)

@@ -15,9 +15,6 @@ use Rattle.taking.specs.Walk.{one}
 pub one-yes : (x : Bool) → x ≡ true → one x ≡ 1
 one-yes x e = rw e
 
-pub one-no : (x : Bool) → x ≡ false → one x ≡ 0
-one-no x e = rw e
-
 pub one-most : (x : Bool) → one x ≤ 1
 one-most true = omega arith
 one-most false = omega arith

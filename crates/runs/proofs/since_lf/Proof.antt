@@ -1,5 +1,4 @@
 -- `runs::since_lf` meets its contract. The loop's invariant: no LF stands from there on.
-use Prim.Native.Nat.{_-_}
 use native.Mathlib.Omega.{arith}
 use lib.ListN.{length}
 use Rattle.runs.proofs.Lines.{feeds-none, NoLf, no-lf-more, no-lf-stops, no-lf-end}
