@@ -1,5 +1,6 @@
 //! Writes cases with the answers that the model expects, for the driver to replay.
 
+use std::env;
 use std::io::{self, BufWriter};
 
 mod model;
@@ -59,34 +60,51 @@ mod wire;
 #[path = "cases/writer_order.rs"]
 mod writer_order;
 
+type Out = wire::Wire<BufWriter<io::Stdout>>;
+
+/// The cases in two parts, which take two drivers about as long, side by side.
+const PARTS: [&[fn(&mut Out) -> io::Result<()>]; 2] = [
+    &[
+        examples::send,
+        file_limit::send,
+        limit_runs::send,
+        stream_long::send,
+        stream_limit::send,
+        small_tables::send,
+        writer_order::send,
+        random_tables::send,
+        malformed::send,
+        headers::send,
+        big_shapes::send,
+    ],
+    &[
+        short_files::send,
+        every_byte::send,
+        dialect_bytes::send,
+        rooms::send,
+        random_files::send,
+        runs::send,
+        many_rows::send,
+        content_limit::send,
+        hand_states::send,
+        stream_short::send,
+        runs::send_streams,
+        many_rows::send_streams,
+        stream_states::send,
+    ],
+];
+
 fn main() -> io::Result<()> {
+    let part = match env::args().nth(1).as_deref() {
+        Some("1") => PARTS[0],
+        Some("2") => PARTS[1],
+        _ => panic!("say which part of the cases: 1 or 2"),
+    };
     laws::hold_of_the_model();
     stream_laws::hold_of_the_model();
-    let out = BufWriter::with_capacity(1 << 16, io::stdout());
-    let mut wire = wire::Wire::new(out)?;
-    examples::send(&mut wire)?;
-    short_files::send(&mut wire)?;
-    every_byte::send(&mut wire)?;
-    dialect_bytes::send(&mut wire)?;
-    rooms::send(&mut wire)?;
-    random_files::send(&mut wire)?;
-    runs::send(&mut wire)?;
-    many_rows::send(&mut wire)?;
-    content_limit::send(&mut wire)?;
-    file_limit::send(&mut wire)?;
-    limit_runs::send(&mut wire)?;
-    hand_states::send(&mut wire)?;
-    stream_short::send(&mut wire)?;
-    stream_long::send(&mut wire)?;
-    runs::send_streams(&mut wire)?;
-    many_rows::send_streams(&mut wire)?;
-    stream_limit::send(&mut wire)?;
-    stream_states::send(&mut wire)?;
-    small_tables::send(&mut wire)?;
-    writer_order::send(&mut wire)?;
-    random_tables::send(&mut wire)?;
-    malformed::send(&mut wire)?;
-    headers::send(&mut wire)?;
-    big_shapes::send(&mut wire)?;
+    let mut wire = Out::new(BufWriter::with_capacity(1 << 16, io::stdout()))?;
+    for send in part {
+        send(&mut wire)?;
+    }
     wire.finish()
 }

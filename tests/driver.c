@@ -76,6 +76,6 @@ int main(void)
         continue;
     uint64_t disagreements = print_counts();
     print_calls();
-    printf("%lu disagreements\n", (unsigned long)disagreements);
+    printf("%lu disagreements in this part\n", (unsigned long)disagreements);
     return disagreements != 0;
 }

@@ -30,7 +30,7 @@ pub struct Reached {
 pub fn passed(check: Check, s: &[u8], at: usize) -> Reached
     ensures { λ r. ⌜ Leads check (now (s .entry)) at r ⌝ }
 {
-    if s.len() < at {
+    if s.len() <= at {
         return Reached { at, check };
     }
     if check.refusal != 0 {
@@ -40,6 +40,10 @@ pub fn passed(check: Check, s: &[u8], at: usize) -> Reached
         return pass_inside(check, s, at);
     }
     if steps::QUOTED < check.form {
+        return Reached { at, check };
+    }
+    // no pass goes over an LF alone, and a walk would make its tables before it sees one
+    if s[at] == 0x0A {
         return Reached { at, check };
     }
     let r = pass_rows(check, s, at);
