@@ -37,12 +37,25 @@ const FIELDS: [&[u8]; 17] = [
     b"\n",
 ];
 
-/// What ends the row in the place of CRLF.
-const BREAKS: [&[u8]; 5] = [b"\n", b"\r", b"\r\r\n", b"\n\r\n", b"\r\n\r\n"];
+/// What ends the other row, in the place of what ends the plain ones.
+const BREAKS: [&[u8]; 7] = [
+    b"\r\n",
+    b"\n",
+    b"\r",
+    b"\n\n",
+    b"\r\r\n",
+    b"\n\r\n",
+    b"\r\n\r\n",
+];
 
-/// Plain rows of a number of columns, and how many of them stand before and behind the other one.
+/// The sum that has the leniency "lf" in it.
+const LF: u8 = 1;
+
+/// Plain rows of a number of columns, what ends each, and how many of them stand before and behind
+/// the other one.
 struct Rows {
     fields: Vec<&'static [u8]>,
+    line_break: &'static [u8],
     times: usize,
 }
 
@@ -67,7 +80,11 @@ type Visit<'a> = &'a mut dyn FnMut((u8, u8), &Trial) -> io::Result<()>;
 
 fn for_each_other(visit: Visit) -> io::Result<()> {
     for (number, dialect) in all_dialects().enumerate() {
-        for rows in shapes() {
+        let mut all: Vec<_> = shapes(b"\r\n").into();
+        if dialect.1 & LF != 0 {
+            all.extend(shapes(b"\n"));
+        }
+        for rows in all {
             for (turn, other) in rows.others().into_iter().enumerate() {
                 let place = PLACES[(number + turn) % PLACES.len()];
                 visit(dialect, &rows.around(place, &other, dialect.0))?;
@@ -81,7 +98,7 @@ fn for_each_long_field(visit: Visit) -> io::Result<()> {
     for dialect in DIALECTS {
         for place in PLACES {
             for other in long_fields() {
-                let rows = &shapes()[1];
+                let rows = &shapes(b"\r\n")[1];
                 let row = rows.with_field(1, &other);
                 visit(dialect, &rows.around(place, &row, dialect.0))?;
             }
@@ -90,8 +107,12 @@ fn for_each_long_field(visit: Visit) -> io::Result<()> {
     Ok(())
 }
 
-fn shapes() -> [Rows; 3] {
-    let rows = |fields, times| Rows { fields, times };
+fn shapes(line_break: &'static [u8]) -> [Rows; 3] {
+    let rows = |fields, times| Rows {
+        fields,
+        line_break,
+        times,
+    };
     [
         rows(vec![&b"a"[..]], 90),
         rows(vec![b"ab", b"", b"cde"], 30),
@@ -120,7 +141,7 @@ impl Rows {
         let behind = &self.fields[column + 1..];
         row.push((b",".to_vec(), behind.len().min(1)));
         row.push((self.join(behind), 1));
-        row.push((b"\r\n".to_vec(), 1));
+        row.push((self.line_break.to_vec(), 1));
         row
     }
 
@@ -130,15 +151,17 @@ impl Rows {
         let width = self.fields.len();
         let row = self.join(&self.fields);
         let whole = |parts: &[&[u8]]| vec![(parts.concat(), 1)];
+        let end = self.line_break;
         let mut others = vec![
-            whole(&[b"\r\n"]),
-            whole(&[&self.join(&self.fields[1..]), b"\r\n"]),
-            whole(&[&row, b",\r\n"]),
-            whole(&[b",", &row, b"\r\n"]),
-            whole(&[&row, b",", &row, b"\r\n"]),
-            whole(&[&b",".repeat(64), b"\r\n"]),
+            whole(&[end]),
+            whole(&[&self.join(&self.fields[1..]), end]),
+            whole(&[&row, b",", end]),
+            whole(&[b",", &row, end]),
+            whole(&[&row, b",", &row, end]),
+            whole(&[&b",".repeat(64), end]),
         ];
-        others.extend(BREAKS.iter().map(|end| whole(&[&row, end])));
+        let other_breaks = BREAKS.iter().filter(|other| **other != end);
+        others.extend(other_breaks.map(|other| whole(&[&row, other])));
         let mut columns = vec![0, width / 2, width - 1];
         columns.dedup();
         for column in columns {
@@ -150,7 +173,7 @@ impl Rows {
 
     /// The rows with another among them that begins at this place of a block.
     fn around(&self, place: usize, other: &Recipe, delimiter: u8) -> Trial {
-        let row = [&self.join(&self.fields), &b"\r\n"[..]].concat();
+        let row = [&self.join(&self.fields), self.line_break].concat();
         let first = row.len() * (self.times + 1);
         let filling = (BLOCK + place - first % BLOCK) % BLOCK;
         let mut recipe = vec![(vec![b'h'], filling), (row.clone(), self.times + 1)];

@@ -194,10 +194,12 @@ fn ended(begin: &[u8], ending: &[u8], kind: &Kind, turn: usize) -> Vec<u8> {
 
 /// Rows that stand over and over: empty ones, short ones, and some of about one or two blocks.
 fn rows() -> Vec<Vec<u8>> {
-    let short: [&[u8]; 6] = [
+    let short: [&[u8]; 8] = [
         b"\r\n",
+        b"\n",
         b",\r\n",
         b"a,b\n",
+        b"ab,,cde\n",
         b"a,b\r\n",
         b"ab,,cde\r\n",
         b"abcdefg,hijklm\r\n",

@@ -42,8 +42,8 @@ pub fn passed(check: Check, s: &[u8], at: usize) -> Reached
     if steps::QUOTED < check.form {
         return Reached { at, check };
     }
-    // no pass goes over an LF alone, and a walk would make its tables before it sees one
-    if s[at] == 0x0A {
+    // no walk goes over the first LF alone, and it would make its tables before it sees one
+    if (s[at] == 0x0A) & (check.used.lf == 0) {
         return Reached { at, check };
     }
     let r = pass_rows(check, s, at);

@@ -49,6 +49,14 @@ pub spot-line : (l t n : ℕ) (p : Place) → moved 0x0A (spot l t n p) ≡ spot
 unfolding spot moved
 spot-line l t n p = rw (plus-plus (p .line .0) l 1, plus-plus (p .byte .0) n 1, ne-eqb (l + 1) 0 (λ e. omega arith))
 
+-- behind an LF, where one byte more of the line would be known
+pub line-behind : (l t n : ℕ) (p q : Place) → along 1 p ≡ spot l t n q → moved 0x0A p ≡ spot (l + 1) 0 n q
+unfolding spot moved
+line-behind l t n p q e =
+    let line : p .line .0 ≡ plus (q .line .0) l = ap (λ (x : Place). x .line .0) e in
+    let byte : plus (p .byte .0) 1 ≡ plus (q .byte .0) n = ap (λ (x : Place). x .byte .0) e in
+    rw (line, byte, plus-plus (q .line .0) l 1, ne-eqb (l + 1) 0 (λ z. omega arith))
+
 pub spot-none : (p : Place) → p .line .0 ≤ counterLimit → p .column .0 ≤ counterLimit → p .byte .0 ≤ counterLimit → spot 0 0 0 p ≡ p
 unfolding spot
 spot-none p a b c =

@@ -4,9 +4,11 @@ use native.Mathlib.Omega.{arith}
 use mathlib.Core.Path.{_≡_, refl, sym, ap, ap₂, _∙_}
 use mathlib.Core.Bool.{Bool, true, false, cond, not}
 use lib.Dec.{eqb}
-use borrow.Author.Tests.{ne-eqb}
+use borrow.Author.Tests.{eqb-true, ne-eqb}
 use Rattle.format.specs.declared.Place.{Place}
 use Rattle.format.specs.Table.{Bytes}
+use Rattle.format.specs.Dialect.{lf, names}
+use Rattle.runs.proofs.Runs.{and-both}
 use Rattle.steps.specs.Steps.{Form, start}
 use Rattle.steps.specs.Numbers.{formNumber}
 use Rattle.state.specs.declared.Check.{Check}
@@ -14,10 +16,10 @@ use Rattle.state.specs.declared.Used.{Used}
 use Rattle.spans.specs.declared.Walk.{Walk}
 use Rattle.places.specs.Counters.{counterLimit, plus, moved, along, spot}
 use Rattle.state.specs.Check.{newField, opened, placed, noting, oneField, oneRecord, fed}
-use Rattle.spans.specs.Walk.{Level, fieldOn, rowOn, opening, Unmoved}
-use Rattle.places.proofs.Counting.{plus-plus, moved-along, spot-line, spot-low, spot-further, along-spot}
+use Rattle.spans.specs.Walk.{Level, fieldOn, rowOn, loneEnds, opening, Unmoved}
+use Rattle.places.proofs.Counting.{plus-plus, moved-along, spot-line, spot-low, spot-further, along-spot, line-behind}
 use Rattle.state.proofs.Parts.{opened-is}
-use Rattle.state.proofs.Closing.{opened-from, Ending, field-closed, row-closed}
+use Rattle.state.proofs.Closing.{opened-from, Ending, field-closed, row-closed, lone-closed}
 
 -- what is known of the state e at the start of the field in work of the walk x from the state c at a
 pub record Opened (c : Check) (a : ℕ) (x : Walk) (e : Check) : Type 0 where
@@ -169,13 +171,31 @@ module _ (c : Check) (a : ℕ) (x : Walk) (g : Check) (z : Stop) (h : Ended c a 
         by true = refl
         by false = refl
 
-    pub row-end : fed (fed g 0x0D) 0x0A ≡ opening (rowOn x (z .at + 2) (z .content) (z .lines)) a c
+    -- a state where the next record begins, at p
+    row-opens :
+        (f : Check) (n : Place) (p : ℕ) → f ≡ placed n (opened 0 (g .used) (newField n 0) (oneRecord (g .field .content) (g .counts .width) (g .counts)) g)
+        → n ≡ spot (z .lines + 1) (p - p) (p - a) (c .here) → f ≡ opening (rowOn x p (z .content) (z .lines)) a c
     unfolding opening
-    row-end =
-        let n = moved 0x0A (moved 0x0D (g .here)) in
-        row-closed g (h .form) (h .ending) as-wide (λ q. no-cr (sym (h .delimiter) ∙ q)) (λ q. no-lf (sym (h .delimiter) ∙ q))
+    row-opens f n p e q =
+        e
         ∙ opened-from n 0 (g .used) (newField n 0) (oneRecord (g .field .content) (g .counts .width) (g .counts)) g c (h .delimiter) (h .leniencies) (h .refusal)
-        ∙ same-opens c (g .used) (c .used) n (spot (z .lines + 1) (z .at + 2 - (z .at + 2)) (z .at + 2 - a) (c .here)) 0 0 0 (min 0 counterLimit)
+        ∙ same-opens c (g .used) (c .used) n (spot (z .lines + 1) (p - p) (p - a) (c .here)) 0 0 0 (min 0 counterLimit)
         (plus (g .counts .records) 1) (plus (c .counts .records) (x .rows + 1)) (plus (g .counts .fields .0) 1) (plus (c .counts .fields .0) (x .fields + 1))
         (plus (g .counts .text) (g .field .content)) (plus (c .counts .text) (x .text + z .content)) (cond (eqb (g .counts .width) 0) (g .counts .width) (g .counts .width)) (c .counts .width)
-        (h .used) next-line refl (omega arith) (ap (λ (r : ℕ). plus r 1) (h .records) ∙ plus-plus (c .counts .records) (x .rows) 1) (h .fields) (h .text) kept-width
+        (h .used) q refl (omega arith) (ap (λ (r : ℕ). plus r 1) (h .records) ∙ plus-plus (c .counts .records) (x .rows) 1) (h .fields) (h .text) kept-width
+
+    pub row-end : fed (fed g 0x0D) 0x0A ≡ opening (rowOn x (z .at + 2) (z .content) (z .lines)) a c
+    row-end =
+        row-opens (fed (fed g 0x0D) 0x0A) (moved 0x0A (moved 0x0D (g .here))) (z .at + 2)
+        (row-closed g (h .form) (h .ending) as-wide (λ q. no-cr (sym (h .delimiter) ∙ q)) (λ q. no-lf (sym (h .delimiter) ∙ q))) next-line
+
+    -- by an LF alone, where one was noted before
+    pub lone-end : loneEnds c ≡ true → fed g 0x0A ≡ opening (rowOn x (z .at + 1) (z .content) (z .lines)) a c
+    lone-end y =
+        let (v, u) = and-both (names (c .leniencies) lf) (eqb (c .used .lf) 1) y in
+        row-opens (fed g 0x0A) (moved 0x0A (g .here)) (z .at + 1)
+        (lone-closed g (h .form) (h .ending) as-wide (ap (λ (n : ℕ). names n lf) (h .leniencies) ∙ v) (ap (λ (r : Used). r .lf) (h .used) ∙ eqb-true (c .used .lf) 1 u) (λ q. no-lf (sym (h .delimiter) ∙ q)))
+        (line-behind (z .lines) (z .at + 1 - z .line) (z .at + 1 - a) (g .here) (c .here) one-on ∙ ap (λ (t : ℕ). spot (z .lines + 1) t (z .at + 1 - a) (c .here)) none)
+      where
+        none : 0 ≡ z .at + 1 - (z .at + 1)
+        none = omega arith

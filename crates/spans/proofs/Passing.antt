@@ -2,7 +2,7 @@
 use Prim.Native.Nat.{ℕ, _+_, _-_, _≤_, _<_, min}
 use native.Mathlib.Omega.{arith}
 use mathlib.Core.Path.{_≡_, refl, sym, ap, ap₂, _∙_}
-use mathlib.Core.Bool.{Bool, true, false, cond, not}
+use mathlib.Core.Bool.{Bool, true, false, cond, not, _&&_}
 use lib.Dec.{eqb}
 use lib.ListN.{length, getD, drop}
 use borrow.Author.Tests.{eqb-true, eqb-false, ne-eqb}
@@ -11,17 +11,17 @@ use Rattle.format.specs.Dialect.{dialect}
 use Rattle.format.specs.House.{contentLimit}
 use Rattle.steps.specs.Steps.{start}
 use Rattle.runs.specs.Runs.{run, isPlain, isBreak}
-use Rattle.runs.proofs.Runs.{run-join, run-within, BreakAt, break-at}
+use Rattle.runs.proofs.Runs.{and-both, run-join, run-within, BreakAt, break-at}
 use Rattle.format.specs.Memory.{largest32}
 use Rattle.state.specs.declared.Check.{Check}
 use Rattle.spans.specs.declared.Inside.{Inside}
 use Rattle.spans.specs.declared.Walk.{Walk}
 use Rattle.places.specs.Counters.{counterLimit, spot}
 use Rattle.state.specs.Check.{newField, opened, placed, noting, fed, fedAll}
-use Rattle.spans.specs.Walk.{Between, lastLine, Level, placedAt, fieldOn, rowOn, startOf, tallied, opening, begun, texted, walked, Closed, endAt, endedBy, Fits, Sized, Walking, Goes, Leading}
+use Rattle.spans.specs.Walk.{Between, lastLine, Level, placedAt, fieldOn, rowOn, startOf, tallied, loneEnds, opening, begun, texted, walked, Closed, endAt, endedBy, Fits, Sized, Walking, Goes, Leading}
 use Rattle.places.proofs.Counting.{spot-flat, spot-lines}
 use Rattle.state.proofs.Between.{fed-at}
-use Rattle.spans.proofs.Fields.{Opened, Stop, stopAt, Ended, field-end, row-end}
+use Rattle.spans.proofs.Fields.{Opened, Stop, stopAt, Ended, field-end, row-end, lone-end}
 use Rattle.spans.proofs.Contents.{at-start, behind-quotes, closes, content-is, content-read, opens-quote, quotes-ended, text-ended, texted-leads, within-quotes, within-settled}
 
 -- a state where the field in work ends, to which the bytes of the field lead
@@ -33,6 +33,13 @@ record Stopped (c : Check) (s : Bytes) (a : ℕ) (x : Walk) (g : Check) (z : Sto
   from : a ≤ z .line
   lines : z .lines ≤ z .at
   text : x .text + z .content ≤ z .at
+
+further : {m n p : ℕ} → m ≤ n → n < p → m ≤ p
+further h l = omega arith
+
+-- nothing stands between a place and itself
+none-between : (p n : ℕ) → p - p ≤ n
+none-between p n = omega arith
 
 -- a walk from a place to one further on
 module _ (c : Check) (s : Bytes) (a : ℕ) (x : Walk) (w : Walking c s a x) where
@@ -85,32 +92,46 @@ module _ (c : Check) (s : Bytes) (a : ℕ) (x : Walk) (w : Walking c s a x) wher
               ∙ fed-at g s (z .at) v ∙ h .leads ∙ w .same;
         }
 
-    walking-row :
-        z .at + 1 < length s → getD s (z .at) 0 ≡ 0x0D → getD s (z .at + 1) 0 ≡ 0x0A → c .counts .width ≡ x .number + 1 → Walking c s a (rowOn x (z .at + 2) (z .content) (z .lines))
-    walking-row v e₁ e₂ q =
+    -- behind what ends its record, one byte or two, where the next one begins
+    walking-next :
+        (p : ℕ) → z .at < p → p ≤ z .at + 2 → p ≤ length s → fedAll (opening (rowOn x p (z .content) (z .lines)) a c) (drop p s) ≡ fedAll g (drop (z .at) s)
+        → Walking c s a (rowOn x p (z .content) (z .lines))
+    walking-next p on near v e =
         let closed = w .closed in
-        let two : z .at + 1 + 1 ≡ z .at + 2 = omega arith in
         record {
           level = w .level;
-          within = omega arith;
+          within = v;
           from = omega arith;
           line = omega arith;
           on = omega arith;
           lines = omega arith;
           closed = omega arith;
-          text = omega arith;
+          text = further (h .text) on;
           number = omega arith;
           unmoved = λ q. absurd (omega arith);
-          plain = omega arith;
-          same =
-              ap (λ (y : Bool). fedAll (cond y c (opening (rowOn x (z .at + 2) (z .content) (z .lines)) a c)) (drop (z .at + 2) s)) (some (x .fields))
-              ∙ ap (λ (y : Check). fedAll y (drop (z .at + 2) s)) (sym (row-end c a x g z (h .ended) far (w .level .no-lf) (w .level .no-cr) q (w .level .width)))
-              ∙ ap (λ (i : ℕ). fedAll (fed (fed g 0x0D) 0x0A) (drop i s)) (sym two)
-              ∙ ap (λ (b : ℕ). fedAll (fed (fed g 0x0D) b) (drop (z .at + 1 + 1) s)) (sym e₂)
-              ∙ fed-at (fed g 0x0D) s (z .at + 1) v
-              ∙ ap (λ (b : ℕ). fedAll (fed g b) (drop (z .at + 1) s)) (sym e₁)
-              ∙ fed-at g s (z .at) (omega arith) ∙ h .leads ∙ w .same;
+          plain = none-between p _;
+          same = ap (λ (y : Bool). fedAll (cond y c (opening (rowOn x p (z .content) (z .lines)) a c)) (drop p s)) (some (x .fields)) ∙ e ∙ h .leads ∙ w .same;
         }
+
+    walking-row :
+        z .at + 1 < length s → getD s (z .at) 0 ≡ 0x0D → getD s (z .at + 1) 0 ≡ 0x0A → c .counts .width ≡ x .number + 1 → Walking c s a (rowOn x (z .at + 2) (z .content) (z .lines))
+    walking-row v e₁ e₂ q =
+        let two : z .at + 1 + 1 ≡ z .at + 2 = omega arith in
+        walking-next (z .at + 2) (omega arith) (omega arith) (omega arith)
+        (ap (λ (y : Check). fedAll y (drop (z .at + 2) s)) (sym (row-end c a x g z (h .ended) far (w .level .no-lf) (w .level .no-cr) q (w .level .width)))
+        ∙ ap (λ (i : ℕ). fedAll (fed (fed g 0x0D) 0x0A) (drop i s)) (sym two)
+        ∙ ap (λ (b : ℕ). fedAll (fed (fed g 0x0D) b) (drop (z .at + 1 + 1) s)) (sym e₂)
+        ∙ fed-at (fed g 0x0D) s (z .at + 1) v
+        ∙ ap (λ (b : ℕ). fedAll (fed g b) (drop (z .at + 1) s)) (sym e₁)
+        ∙ fed-at g s (z .at) (omega arith))
+
+    walking-lone :
+        z .at < length s → getD s (z .at) 0 ≡ 0x0A → loneEnds c ≡ true → c .counts .width ≡ x .number + 1 → Walking c s a (rowOn x (z .at + 1) (z .content) (z .lines))
+    walking-lone v e y q =
+        walking-next (z .at + 1) (omega arith) (omega arith) (omega arith)
+        (ap (λ (f : Check). fedAll f (drop (z .at + 1) s)) (sym (lone-end c a x g z (h .ended) far (w .level .no-lf) (w .level .no-cr) q (w .level .width) y))
+        ∙ ap (λ (b : ℕ). fedAll (fed g b) (drop (z .at + 1) s)) (sym e)
+        ∙ fed-at g s (z .at) v)
 
   -- a bare field ends where the walk stands
   module _ (l : x .at - x .start ≤ contentLimit) where
@@ -152,6 +173,10 @@ module _ (c : Check) (s : Bytes) (a : ℕ) (x : Walk) (w : Walking c s a x) wher
         x .at + 1 < length s → getD s (x .at) 0 ≡ 0x0D → getD s (x .at + 1) 0 ≡ 0x0A → c .counts .width ≡ x .number + 1
         → Walking c s a (rowOn x (x .at + 2) (x .at - x .start) (x .lines))
     bare-row v e₁ e₂ q = walking-row ends-here (stopAt (x .at) (x .at - x .start) (x .line) (x .lines)) bare-stopped v e₁ e₂ q
+
+    pub bare-lone :
+        x .at < length s → getD s (x .at) 0 ≡ 0x0A → loneEnds c ≡ true → c .counts .width ≡ x .number + 1 → Walking c s a (rowOn x (x .at + 1) (x .at - x .start) (x .lines))
+    bare-lone v e y q = walking-lone ends-here (stopAt (x .at) (x .at - x .start) (x .line) (x .lines)) bare-stopped v e y q
 
   -- a quoted field begins where the walk stands, and its content ends at r
   module _ (here : x .at ≡ x .start) (v : x .at < length s) (e : getD s (x .at) 0 ≡ 0x22) (r : Inside) (b : Between s (x .at + 1) r) (l : r .content ≤ contentLimit) (u : r .end < length s) (q : getD s (r .end) 0 ≡ 0x22) where
@@ -230,6 +255,11 @@ module _ (c : Check) (s : Bytes) (a : ℕ) (x : Walk) (w : Walking c s a x) wher
         → Walking c s a (rowOn x (r .end + 1 + 2) (r .content) (x .lines + r .lines))
     quoted-row n d₁ d₂ k = walking-row after-quotes (stopAt (r .end + 1) (r .content) (lastLine (x .line) r) (x .lines + r .lines)) quoted-stopped n d₁ d₂ k
 
+    pub quoted-lone :
+        r .end + 1 < length s → getD s (r .end + 1) 0 ≡ 0x0A → loneEnds c ≡ true → c .counts .width ≡ x .number + 1
+        → Walking c s a (rowOn x (r .end + 1 + 1) (r .content) (x .lines + r .lines))
+    quoted-lone n d y k = walking-lone after-quotes (stopAt (r .end + 1) (r .content) (lastLine (x .line) r) (x .lines + r .lines)) quoted-stopped n d y k
+
 -- nothing passed yet
 pub walking-start :
     (c : Check) (s : Bytes) (a : ℕ) → Level c s → c .field .number .0 ≤ largest32 → a ≤ length s
@@ -295,25 +325,35 @@ pub one-walk : (c : Check) (s : Bytes) (a : ℕ) (x y : Walk) → Leading c s a 
 one-walk c s a x y g h = g .same ∙ sym (h .same)
 
 -- from a walk to itself, and to one behind the field that ends at p
-pub stays : (delimiter width : ℕ) (s : Bytes) (x : Walk) → Goes delimiter width s x x
-stays delimiter width s x = record { on = omega arith; goes = λ c d k a w. w }
+pub stays : (delimiter width : ℕ) (y : Bool) (s : Bytes) (x : Walk) → Goes delimiter width y s x x
+stays delimiter width y s x = record { on = omega arith; goes = λ c d k i a w. w }
 
-module _ (delimiter width : ℕ) (s : Bytes) (x : Walk) (h : Sized x s) where
-  module _ (p m j l : ℕ) (field : getD s p 0 ≡ delimiter → Goes delimiter width s x (fieldOn x (p + 1) m j l)) (row : BreakAt s p → x .number + 1 ≡ width → Goes delimiter width s x (rowOn x (p + 2) m l)) where
-    goes-ended : Goes delimiter width s x (endedBy x (endAt delimiter width (x .number) s p) p m j l)
-    goes-ended = delimited (eqb (getD s p 0) delimiter) refl
-      where
-        broken : (y : Bool) → isBreak (drop p s) ≡ y → x .number + 1 ≡ width → Goes delimiter width s x (endedBy x (cond y 2 0) p m j l)
-        broken true e q = row (break-at s p e) q
-        broken false e q = stays delimiter width s x
+module _ (delimiter width : ℕ) (y : Bool) (s : Bytes) (x : Walk) (h : Sized x s) where
+  module _
+      (p m j l : ℕ) (field : getD s p 0 ≡ delimiter → Goes delimiter width y s x (fieldOn x (p + 1) m j l))
+      (row : BreakAt s p → x .number + 1 ≡ width → Goes delimiter width y s x (rowOn x (p + 2) m l))
+      (lone : getD s p 0 ≡ 0x0A → y ≡ true → x .number + 1 ≡ width → Goes delimiter width y s x (rowOn x (p + 1) m l))
+    where
+      goes-ended : Goes delimiter width y s x (endedBy x (endAt delimiter width y (x .number) s p) p m j l)
+      goes-ended = delimited (eqb (getD s p 0) delimiter) refl
+        where
+          ended-alone : (z : Bool) → (y && eqb (getD s p 0) 0x0A) ≡ z → x .number + 1 ≡ width → Goes delimiter width y s x (endedBy x (cond z 3 0) p m j l)
+          ended-alone true e q = let (u, v) = and-both y (eqb (getD s p 0) 0x0A) e in lone (eqb-true (getD s p 0) 0x0A v) u q
+          ended-alone false e q = stays delimiter width y s x
 
-        last : (y : Bool) → eqb (x .number + 1) width ≡ y → Goes delimiter width s x (endedBy x (cond y (cond (isBreak (drop p s)) 2 0) 0) p m j l)
-        last true e = broken (isBreak (drop p s)) refl (eqb-true (x .number + 1) width e)
-        last false e = stays delimiter width s x
+          broken : (z : Bool) → isBreak (drop p s) ≡ z → x .number + 1 ≡ width → Goes delimiter width y s x (endedBy x (cond z 2 (cond (y && eqb (getD s p 0) 0x0A) 3 0)) p m j l)
+          broken true e q = row (break-at s p e) q
+          broken false e q = ended-alone (y && eqb (getD s p 0) 0x0A) refl q
 
-        delimited : (y : Bool) → eqb (getD s p 0) delimiter ≡ y → Goes delimiter width s x (endedBy x (cond y 1 (cond (eqb (x .number + 1) width) (cond (isBreak (drop p s)) 2 0) 0)) p m j l)
-        delimited true e = field (eqb-true (getD s p 0) delimiter e)
-        delimited false e = last (eqb (x .number + 1) width) refl
+          last : (z : Bool) → eqb (x .number + 1) width ≡ z → Goes delimiter width y s x (endedBy x (cond z (cond (isBreak (drop p s)) 2 (cond (y && eqb (getD s p 0) 0x0A) 3 0)) 0) p m j l)
+          last true e = broken (isBreak (drop p s)) refl (eqb-true (x .number + 1) width e)
+          last false e = stays delimiter width y s x
+
+          delimited :
+              (z : Bool) → eqb (getD s p 0) delimiter ≡ z
+              → Goes delimiter width y s x (endedBy x (cond z 1 (cond (eqb (x .number + 1) width) (cond (isBreak (drop p s)) 2 (cond (y && eqb (getD s p 0) 0x0A) 3 0)) 0)) p m j l)
+          delimited true e = field (eqb-true (getD s p 0) delimiter e)
+          delimited false e = last (eqb (x .number + 1) width) refl
 
   fits : (p m l : ℕ) → x .start ≤ p → p < length s → x .text + m ≤ p → l ≤ p → Fits x p m l
   fits p m l on v t n =
@@ -328,11 +368,12 @@ module _ (delimiter width : ℕ) (s : Bytes) (x : Walk) (h : Sized x s) where
 
   -- a bare field
   pub goes-bare :
-      x .at - x .start ≤ contentLimit → Goes delimiter width s x (endedBy x (endAt delimiter width (x .number) s (x .at)) (x .at) (x .at - x .start) (x .line) (x .lines))
+      x .at - x .start ≤ contentLimit → Goes delimiter width y s x (endedBy x (endAt delimiter width y (x .number) s (x .at)) (x .at) (x .at - x .start) (x .line) (x .lines))
   goes-bare l =
       goes-ended (x .at) (x .at - x .start) (x .line) (x .lines)
-      (λ e. record { on = omega arith; goes = λ c d k a w. bare-field c s a x w l (h .inside) (e ∙ sym d) })
-      (λ e q. record { on = omega arith; goes = λ c d k a w. bare-row c s a x w l (e .inside) (e .first) (e .second) (k ∙ sym q) })
+      (λ e. record { on = omega arith; goes = λ c d k i a w. bare-field c s a x w l (h .inside) (e ∙ sym d) })
+      (λ e q. record { on = omega arith; goes = λ c d k i a w. bare-row c s a x w l (e .inside) (e .first) (e .second) (k ∙ sym q) })
+      (λ e z q. record { on = omega arith; goes = λ c d k i a w. bare-lone c s a x w l (h .inside) e (i ∙ z) (k ∙ sym q) })
 
   pub bare-fits : Fits x (x .at) (x .at - x .start) (x .lines)
   bare-fits = fits (x .at) (x .at - x .start) (x .lines) (h .from) (h .inside) (omega (arith, h .text, h .from)) (omega (arith, h .lines, h .from))
@@ -341,14 +382,18 @@ module _ (delimiter width : ℕ) (s : Bytes) (x : Walk) (h : Sized x s) where
   module _ (r : Inside) (b : Between s (x .at + 1) r) (g : Closed s r) where
     pub goes-quoted :
         x .at ≡ x .start → getD s (x .at) 0 ≡ 0x22
-        → Goes delimiter width s x (endedBy x (endAt delimiter width (x .number) s (r .end + 1)) (r .end + 1) (r .content) (lastLine (x .line) r) (x .lines + r .lines))
+        → Goes delimiter width y s x (endedBy x (endAt delimiter width y (x .number) s (r .end + 1)) (r .end + 1) (r .content) (lastLine (x .line) r) (x .lines + r .lines))
     goes-quoted here opens =
         let inside : r .end < length s = omega (arith, g .behind) in
         goes-ended (r .end + 1) (r .content) (lastLine (x .line) r) (x .lines + r .lines)
-        (λ e. record { on = omega (arith, b .on); goes = λ c d k a w. quoted-field c s a x w here (h .inside) opens r b (g .limit) inside (g .quote) (g .behind) (e ∙ sym d) })
+        (λ e. record { on = omega (arith, b .on); goes = λ c d k i a w. quoted-field c s a x w here (h .inside) opens r b (g .limit) inside (g .quote) (g .behind) (e ∙ sym d) })
         (λ e q. record {
           on = omega (arith, b .on);
-          goes = λ c d k a w. quoted-row c s a x w here (h .inside) opens r b (g .limit) inside (g .quote) (e .inside) (e .first) (e .second) (k ∙ sym q);
+          goes = λ c d k i a w. quoted-row c s a x w here (h .inside) opens r b (g .limit) inside (g .quote) (e .inside) (e .first) (e .second) (k ∙ sym q);
+        })
+        (λ e z q. record {
+          on = omega (arith, b .on);
+          goes = λ c d k i a w. quoted-lone c s a x w here (h .inside) opens r b (g .limit) inside (g .quote) (g .behind) e (i ∙ z) (k ∙ sym q);
         })
 
     pub quoted-fits : Fits x (r .end + 1) (r .content) (x .lines + r .lines)

@@ -1,12 +1,12 @@
 -- What a walk stands for: content between quotes, or fields and records, gone over in plain numbers.
 use Prim.Native.Nat.{ℕ, _+_, _-_, _≤_, _<_, min}
 use mathlib.Core.Path.{_≡_}
-use mathlib.Core.Bool.{cond, not}
+use mathlib.Core.Bool.{Bool, cond, not, _&&_}
 use lib.Dec.{eqb}
 use lib.ListN.{length, getD, drop}
 use Rattle.format.specs.declared.Place.{Place}
 use Rattle.format.specs.Table.{Bytes}
-use Rattle.format.specs.Dialect.{dialect}
+use Rattle.format.specs.Dialect.{lf, names, dialect}
 use Rattle.format.specs.House.{contentLimit}
 use Rattle.steps.specs.Steps.{start, bare, quoted}
 use Rattle.steps.specs.Numbers.{formNumber}
@@ -77,13 +77,19 @@ fieldOn x next m line l = record { at = next; line = line; lines = l; start = ne
 abbrev pub rowOn : Walk → ℕ → ℕ → ℕ → Walk
 rowOn x next m l = record { at = next; line = next; lines = l + 1; start = next; rows = x .rows + 1; fields = x .fields + 1; number = 0; text = x .text + m }
 
--- what ends a field at p, the number of which is n: 1 a delimiter, 2 a line break behind as many fields as a width, 0 nothing such
-abbrev pub endAt : ℕ → ℕ → ℕ → Bytes → ℕ → ℕ
-endAt delimiter width n s p = cond (eqb (getD s p 0) delimiter) 1 (cond (eqb (n + 1) width) (cond (isBreak (drop p s)) 2 0) 0)
+-- an LF alone ends a record, and one did before, so that nothing is left to note of it
+abbrev pub loneEnds : Check → Bool
+loneEnds c = names (c .leniencies) lf && eqb (c .used .lf) 1
+
+-- what ends a field at p, the number of which is n: 1 a delimiter; behind as many fields as a width 2 a line break, 3 an LF alone, where y says that it does; 0
+-- nothing such
+abbrev pub endAt : ℕ → ℕ → Bool → ℕ → Bytes → ℕ → ℕ
+endAt delimiter width y n s p =
+    cond (eqb (getD s p 0) delimiter) 1 (cond (eqb (n + 1) width) (cond (isBreak (drop p s)) 2 (cond (y && eqb (getD s p 0) 0x0A) 3 0)) 0)
 
 -- a walk behind what ends the field in work so at p, with m bytes of content, on a line that begins at j, behind l line feeds; or where it stands
 abbrev pub endedBy : Walk → ℕ → ℕ → ℕ → ℕ → ℕ → Walk
-endedBy x n p m j l = cond (eqb n 1) (fieldOn x (p + 1) m j l) (cond (eqb n 2) (rowOn x (p + 2) m l) x)
+endedBy x n p m j l = cond (eqb n 1) (fieldOn x (p + 1) m j l) (cond (eqb n 2) (rowOn x (p + 2) m l) (cond (eqb n 3) (rowOn x (p + 1) m l) x))
 
 -- no count of it carries over
 pub record Fits (x : Walk) (p m l : ℕ) : Type 0 where
@@ -130,7 +136,7 @@ pub record Sized (x : Walk) (s : Bytes) : Type 0 where
   pub from : x .start ≤ x .at
   pub line : x .line ≤ x .start
   pub lines : x .lines ≤ x .start
-  pub closed : x .fields + x .rows ≤ x .start
+  pub closed : x .fields + x .rows ≤ x .start + x .start
   pub text : x .text ≤ x .start
   pub number : x .number ≤ largest32 + x .start
 
@@ -151,17 +157,17 @@ pub record Walking (c : Check) (s : Bytes) (a : ℕ) (x : Walk) : Type 0 where
   pub line : x .line ≤ x .start
   pub on : a ≤ x .line
   pub lines : x .lines ≤ x .start
-  pub closed : x .fields + x .rows ≤ x .start
+  pub closed : x .fields + x .rows ≤ x .start + x .start
   pub text : x .text ≤ x .start
   pub number : x .number ≤ largest32 + x .start
   pub unmoved : x .fields ≡ 0 → Unmoved c a x
   pub plain : x .at - x .start ≤ run (isPlain (dialect (c .delimiter) (c .leniencies))) (drop (x .start) s)
   pub same : fedAll (begun x a c) (drop (x .start) s) ≡ fedAll c (drop a s)
 
--- from a walk to one as far or further on, for every state of a delimiter and of a width of records
-pub record Goes (delimiter width : ℕ) (s : Bytes) (x r : Walk) : Type 0 where
+-- from a walk to one as far or further on, for every state of a delimiter and of a width of records, and in which an LF alone ends one or does not
+pub record Goes (delimiter width : ℕ) (y : Bool) (s : Bytes) (x r : Walk) : Type 0 where
   pub on : x .at ≤ r .at
-  pub goes : (c : Check) → c .delimiter ≡ delimiter → c .counts .width ≡ width → (a : ℕ) → Walking c s a x → Walking c s a r
+  pub goes : (c : Check) → c .delimiter ≡ delimiter → c .counts .width ≡ width → loneEnds c ≡ y → (a : ℕ) → Walking c s a x → Walking c s a r
 
 -- a walk from a place on leads from the state that it comes to where the state c led, for every state and place
 pub record Leading (c : Check) (s : Bytes) (a : ℕ) (x : Walk) : Type 0 where

@@ -8,7 +8,7 @@ ghost use mathlib.Core.Path.{_≡_};
 ghost use Rattle.format.specs.Dialect.{dialect};
 ghost use Rattle.format.specs.Memory.{largest32};
 ghost use Rattle.runs.specs.Words.{Marks, Stops};
-ghost use Rattle.spans.specs.Walk.{BetweenFrom, Between, runOn, Further, lastLine, Level, placedAt, fieldOn, rowOn, Closed, endAt, endedBy, Fits, Sized, Walking, Goes, Leading};
+ghost use Rattle.spans.specs.Walk.{BetweenFrom, Between, runOn, Further, lastLine, Level, placedAt, fieldOn, rowOn, Closed, endAt, endedBy, Fits, Sized, Walking, Goes, Leading, loneEnds};
 ghost use lib.ListN.{length, getD};
 ghost use Rattle.runs.specs.Runs.{isInner};
 use state::Check;
@@ -65,7 +65,8 @@ pub fn rows(check: Check, s: &[u8], at: usize) -> Walk
     }
     let t = runs::stop_table(check.delimiter, check.leniencies);
     let inner = runs::inner_table();
-    walk_on(check, &t, &inner, s, at)
+    let alone = is_alone(check);
+    walk_on(check, alone, &t, &inner, s, at)
 }
 
 // A walk that has passed nothing yet.
@@ -123,12 +124,27 @@ fn is_level(check: Check, s: &[u8]) -> bool
     check.counts.width <= places::COUNTER_LIMIT
 }
 
+// Whether an LF alone ends a record, and one did before, so that the walk has nothing to note of it.
+fn is_alone(check: Check) -> bool
+    ensures { λ r. ⌜ r ≡ loneEnds check ⌝ }
+{
+    let lf = steps::allows_lf(check.leniencies);
+    lf & (check.used.lf == 1)
+}
+
 // The same from a level state, each record as wide as the first: by words that mark the bytes which are
 // no plain text.
-fn walk_on(check: Check, t: &[bool; 256], inner: &[bool; 256], s: &[u8], at: usize) -> Walk
+fn walk_on(
+    check: Check,
+    alone: bool,
+    t: &[bool; 256],
+    inner: &[bool; 256],
+    s: &[u8],
+    at: usize,
+) -> Walk
     requires { ⌜ at ≤ length (now s) ⌝ }
     requires { ⌜ Marks (now inner) isInner ⌝ }
-    requires { ⌜ Level check (now s) × Stops (now t) (dialect (check .delimiter) (check .leniencies)) ⌝ }
+    requires { ⌜ Level check (now s) × Stops (now t) (dialect (check .delimiter) (check .leniencies)) × (alone ≡ loneEnds check) ⌝ }
     ensures { λ r. ⌜ Walking check (now (s .entry)) at r ⌝ }
 {
     let mut x = start_of(check.field.number.0, at);
@@ -139,7 +155,7 @@ fn walk_on(check: Check, t: &[bool; 256], inner: &[bool; 256], s: &[u8], at: usi
         while w != 0 {
             let k = u64::trailing_zeros(w);
             let y = placed_at(x, x.at + (k as usize));
-            x = at_mark(check.delimiter, check.counts.width, inner, y, s);
+            x = at_mark(check.delimiter, check.counts.width, alone, inner, y, s);
             if x.at == y.at {
                 return x;
             }
@@ -152,10 +168,10 @@ fn walk_on(check: Check, t: &[bool; 256], inner: &[bool; 256], s: &[u8], at: usi
 
 // A walk behind the field that ends at the mark where it stands, and behind what ends it; or where it
 // stands.
-fn at_mark(delimiter: u8, width: u32, inner: &[bool; 256], x: Walk, s: &[u8]) -> Walk
+fn at_mark(delimiter: u8, width: u32, alone: bool, inner: &[bool; 256], x: Walk, s: &[u8]) -> Walk
     requires { ⌜ Marks (now inner) isInner ⌝ }
     requires { ⌜ Sized x (now s) ⌝ }
-    ensures { λ r. ⌜ Goes delimiter width (now (s .entry)) x r ⌝ }
+    ensures { λ r. ⌜ Goes delimiter width alone (now (s .entry)) x r ⌝ }
 {
     let p = x.at;
     let m = p - x.start;
@@ -163,17 +179,17 @@ fn at_mark(delimiter: u8, width: u32, inner: &[bool; 256], x: Walk, s: &[u8]) ->
         return x;
     }
     if s[p] == 0x22 {
-        return at_quote(delimiter, width, inner, x, s);
+        return at_quote(delimiter, width, alone, inner, x, s);
     }
-    let n = end_at(delimiter, width, x.number, s, p);
+    let n = end_at(delimiter, width, alone, x.number, s, p);
     ended_by(x, n, p, m, x.line, x.lines)
 }
 
 // The same where the field begins with a quote at the mark.
-fn at_quote(delimiter: u8, width: u32, inner: &[bool; 256], x: Walk, s: &[u8]) -> Walk
+fn at_quote(delimiter: u8, width: u32, alone: bool, inner: &[bool; 256], x: Walk, s: &[u8]) -> Walk
     requires { ⌜ Marks (now inner) isInner ⌝ }
     requires { ⌜ Sized x (now s) × (getD (now s) (x .at) 0 ≡ 0x22) ⌝ }
-    ensures { λ r. ⌜ Goes delimiter width (now (s .entry)) x r ⌝ }
+    ensures { λ r. ⌜ Goes delimiter width alone (now (s .entry)) x r ⌝ }
 {
     let p = x.at;
     let lines = x.lines;
@@ -187,7 +203,7 @@ fn at_quote(delimiter: u8, width: u32, inner: &[bool; 256], x: Walk, s: &[u8]) -
     let z = q.end;
     let more = q.lines;
     let e = z + 1;
-    let n = end_at(delimiter, width, x.number, s, e);
+    let n = end_at(delimiter, width, alone, x.number, s, e);
     ended_by(x, n, e, q.content, last_line(x.line, q), lines + more)
 }
 
@@ -206,11 +222,12 @@ fn closes(s: &[u8], q: Inside) -> bool
     s[z] == 0x22
 }
 
-// What ends a field at a place, if it is so many fields behind the first of its record: 1 a delimiter,
-// 2 a line break behind the last field of a record of a width, 0 nothing such.
-fn end_at(delimiter: u8, width: u32, number: usize, s: &[u8], at: usize) -> usize
+// What ends a field at a place, if it is so many fields behind the first of its record: 1 a delimiter;
+// behind the last field of a record of a width 2 a line break, and 3 an LF alone, if it does; 0 nothing
+// such.
+fn end_at(delimiter: u8, width: u32, alone: bool, number: usize, s: &[u8], at: usize) -> usize
     requires { ⌜ (at < length (now s)) × (number < 18446744073709551615) ⌝ }
-    ensures { λ r. ⌜ r ≡ endAt delimiter width number (now (s .entry)) at ⌝ }
+    ensures { λ r. ⌜ r ≡ endAt delimiter width alone number (now (s .entry)) at ⌝ }
 {
     if s[at] == delimiter {
         return 1;
@@ -218,7 +235,10 @@ fn end_at(delimiter: u8, width: u32, number: usize, s: &[u8], at: usize) -> usiz
     if number + 1 != width as usize {
         return 0;
     }
-    if runs::is_break(s, at) { 2 } else { 0 }
+    if runs::is_break(s, at) {
+        return 2;
+    }
+    if alone & (s[at] == 0x0A) { 3 } else { 0 }
 }
 
 // A walk behind the field that ends so at a place, with so much content, on a line that begins at a
@@ -232,6 +252,9 @@ fn ended_by(x: Walk, n: usize, at: usize, content: usize, line: usize, lines: us
     }
     if n == 2 {
         return row_on(x, at + 2, content, lines);
+    }
+    if n == 3 {
+        return row_on(x, at + 1, content, lines);
     }
     x
 }

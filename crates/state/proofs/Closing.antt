@@ -1,23 +1,23 @@
 -- The end of a field and of a record, from any state that may stand before one, and the opening of a quoted field.
 use Prim.Native.Nat.{ℕ, _≤_}
-use mathlib.Core.Path.{_≡_, refl, ap, _∙_}
-use mathlib.Core.Bool.{false, and-false, or-true}
-use lib.Dec.{T, eqb}
+use mathlib.Core.Path.{_≡_, refl, sym, ap, _∙_}
+use mathlib.Core.Bool.{true, false, not, and-false, or-true}
+use lib.Dec.{T, eqb, leb}
 use borrow.Author.Tests.{eq-eqb, le-leb}
 use Rattle.format.specs.declared.Place.{Place}
 use Rattle.format.specs.Dialect.{lf, ragged, names, dialect, isWide, delimiter, quote, CR, LF}
 use Rattle.format.specs.House.{contentLimit}
 use Rattle.format.proofs.Classes.{delimiter-at, quote-beside, CR-beside, LF-beside}
-use Rattle.steps.specs.Steps.{Form, start, quoted, cr}
+use Rattle.steps.specs.Steps.{Form, start, lead, bare, quoted, shut, tail, cr}
 use Rattle.steps.specs.Numbers.{formNumber}
-use Rattle.steps.proofs.Acts.{over, over-delimiter, over-CR, CR-LF, quote-opens}
+use Rattle.steps.proofs.Acts.{over, over-delimiter, over-CR, over-LF, CR-LF, quote-opens}
 use Rattle.places.specs.Counters.{plus, moved, along}
 use Rattle.places.proofs.Counting.{moved-along}
 use Rattle.state.specs.declared.Check.{Check}
 use Rattle.state.specs.declared.Counts.{Counts}
 use Rattle.state.specs.declared.Current.{Current}
 use Rattle.state.specs.declared.Used.{Used}
-use Rattle.state.specs.Check.{newField, entered, opened, placed, noted, oneField, oneRecord, fieldEnded, recordEnded, stepped, fed}
+use Rattle.state.specs.Check.{newField, entered, opened, placed, noted, oneField, oneRecord, atEnd, fieldEnded, recordEnded, seenAt, stepped, fed}
 use Rattle.state.proofs.Jumps.{fed-is, noted-none}
 
 -- what the start of a field keeps of the state before it
@@ -92,6 +92,38 @@ module _ (g : Check) (k : Form) (h : Ending g k) where
         lf-step =
             rw (fed-is behind-cr 0x0A cr LF (h .refusal) refl (LF-beside (dialect (g .delimiter) (g .leniencies)) no-lf), CR-LF (names (g .leniencies) lf), noted-none 0x0A behind-cr refl)
             (ended-record (moved 0x0A (moved 0x0D (g .here))))
+
+  -- by an LF alone, where one was noted before
+  module _ (w : plus (g .field .number .0) 1 ≡ g .counts .width) (alone : names (g .leniencies) lf ≡ true) (before : g .used .lf ≡ 1) (no-lf : g .delimiter ≡ 0x0A → ⊥) where
+    noted-before : (v : Used) → v .lf ≡ 1 → atEnd 0 true true v ≡ v
+    noted-before v e = λ i. record { lf = sym e i; blanks = v .blanks; ragged = v .ragged; bytes = v .bytes }
+
+    no-cr-form : (k : Form) → T (over k) → leb (formNumber cr) (formNumber k) ≡ false
+    no-cr-form start u = refl
+    no-cr-form lead u = refl
+    no-cr-form bare u = refl
+    no-cr-form shut u = refl
+    no-cr-form tail u = refl
+
+    ended-alone :
+        (p : Place) → placed p (recordEnded (g .used) (seenAt g) p (not (leb (formNumber cr) (g .form))) g)
+        ≡ placed p (opened 0 (g .used) (newField p 0) (oneRecord (g .field .content) (g .counts .width) (g .counts)) g)
+    unfolding recordEnded
+    ended-alone p =
+        rw (le-leb _ _ (h .content), h .held, w, eq-eqb (g .counts .width) (g .counts .width) refl, or-true (eqb (g .counts .width) 0), or-true (names (g .leniencies) ragged), h .form, no-cr-form k (h .ends), noted-before (g .used) before)
+
+    pub lone-closed :
+        let n = moved 0x0A (g .here) in
+        fed g 0x0A ≡ placed n (opened 0 (g .used) (newField n 0) (oneRecord (g .field .content) (g .counts .width) (g .counts)) g)
+    unfolding stepped
+    lone-closed =
+        rw (
+          fed-is g 0x0A k LF (h .refusal) (h .form) (LF-beside (dialect (g .delimiter) (g .leniencies)) no-lf),
+          alone,
+          over-LF true k (h .ends),
+          noted-none 0x0A g refl,
+        )
+        (ended-alone (moved 0x0A (g .here)))
 
 -- a quote at the start of a field opens it
 pub quote-opened :

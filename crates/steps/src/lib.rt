@@ -91,7 +91,7 @@ fn table() -> [[u8; 7]; 7]
 }
 
 // Whether a sum names a leniency: each is a bit of it.
-fn allows_lf(leniencies: u8) -> bool
+pub fn allows_lf(leniencies: u8) -> bool
     ensures { λ r. ⌜ r ≡ names leniencies lf ⌝ }
 {
     leniencies % 2 == 1

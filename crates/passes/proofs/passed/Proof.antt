@@ -27,7 +27,7 @@ read-first : tie.Need-shared-slice-read-if5
 read-first c = omega (arith, c .before .before .before .before .before .before .before .if1 .left)
 
 returns-5 : tie.Need-returns-5
-returns-5 c = let a = c .before .before .before .before .before .before .before .before .before .before .args in stays-leads (a .check) (a .s .now) (a .at)
+returns-5 c = let a = c .before .before .before .before .before .before .before .before .before .before .before .args in stays-leads (a .check) (a .s .now) (a .at)
 
 pass-rows-requires : tie.Need-pass-rows-requires
 pass-rows-requires c κs = search needs
@@ -36,7 +36,7 @@ returns-6 : tie.Need-returns-6
 returns-6 c = c .before .before .pass-rows .ensures
 
 pass-text-requires : tie.Need-pass-text-requires
-pass-text-requires c κs = (omega (arith, c .before .before .before .before .before .before .before .before .before .before .before .if1 .left), (c .before .before .before .before .before .before .before .before .before .if2 .left, omega (arith, c .before .before .before .before .before .if4 .left, c .before .before .before .before .before .before .before .if3 .left)))
+pass-text-requires c κs = (omega (arith, c .before .before .before .before .before .before .before .before .before .before .before .before .if1 .left), (c .before .before .before .before .before .before .before .before .before .before .if2 .left, omega (arith, c .before .before .before .before .before .before .if4 .left, c .before .before .before .before .before .before .before .before .if3 .left)))
 
 returns-7 : tie.Need-returns-7
 returns-7 c = c .pass-text .ensures

@@ -12,7 +12,7 @@ cast-if1 : tie.Need-cast-if1
 cast-if1 c = search needs
 
 returns : tie.Need-returns
-returns c = let a = c .before .before .before .args in stays (a .delimiter) (a .width) (a .s .now) (a .x)
+returns c = let a = c .before .before .before .args in stays (a .delimiter) (a .width) (a .alone) (a .s .now) (a .x)
 
 shared-slice-read-if2 : tie.Need-shared-slice-read-if2
 shared-slice-read-if2 c = omega (arith, c .before .before .before .before .pre .1 .inside)
@@ -29,12 +29,12 @@ end-at-requires c κs = let h = c .before .before .before .before .before .pre .
 ended-by-requires : tie.Need-ended-by-requires
 ended-by-requires c κs =
     let a = c .before .before .before .before .before .before in
-    bare-fits (a .args .delimiter) (a .args .width) (a .args .s .now) (a .args .x) (a .pre .1)
+    bare-fits (a .args .delimiter) (a .args .width) (a .args .alone) (a .args .s .now) (a .args .x) (a .pre .1)
 
 returns-3 : tie.Need-returns-3
 returns-3 c =
     let a = c .before .before .before .before .before .before .before in
-    rw (c .ended-by .ensures, c .before .end-at .ensures) (goes-bare (a .args .delimiter) (a .args .width) (a .args .s .now) (a .args .x) (a .pre .1) (omega (arith, c .before .before .before .before .if1 .left)))
+    rw (c .ended-by .ensures, c .before .end-at .ensures) (goes-bare (a .args .delimiter) (a .args .width) (a .args .alone) (a .args .s .now) (a .args .x) (a .pre .1) (omega (arith, c .before .before .before .before .if1 .left)))
 
 pub at-mark-spec : {M : Type 1} → statement M
 at-mark-spec =

@@ -11,7 +11,7 @@ closed : (c : tie.Else2) → let a = c .before .before .before .before .before .
 closed c = c .before .closes .ensures (not-false (c .before .closes .result) (c .if2 .left))
 
 returns : tie.Need-returns
-returns c = let a = c .before .before .before .args in stays (a .delimiter) (a .width) (a .s .now) (a .x)
+returns c = let a = c .before .before .before .args in stays (a .delimiter) (a .width) (a .alone) (a .s .now) (a .x)
 
 add-inside-field : tie.Need-add-inside-field
 add-inside-field c = let h = c .before .before .before .pre .1 .0 in omega (arith, h .inside, h .short)
@@ -23,7 +23,7 @@ closes-requires : tie.Need-closes-requires
 closes-requires c κs = c .inside-field .ensures .within
 
 returns-2 : tie.Need-returns-2
-returns-2 c = let a = c .before .before .before .before .before .before .args in stays (a .delimiter) (a .width) (a .s .now) (a .x)
+returns-2 c = let a = c .before .before .before .before .before .before .args in stays (a .delimiter) (a .width) (a .alone) (a .s .now) (a .x)
 
 add-e : tie.Need-add-e
 add-e c = omega (arith, closed c .behind, c .before .before .before .before .before .before .pre .1 .0 .short)
@@ -40,20 +40,20 @@ last-line-requires c κs = omega (arith, c .before .before .before .inside-field
 add-ended-by : tie.Need-add-ended-by
 add-ended-by c =
     let a = c .before .before .before .before .before .before .before .before in
-    let f = quoted-fits (a .args .delimiter) (a .args .width) (a .args .s .now) (a .args .x) (a .pre .1 .0) (c .before .before .before .before .inside-field .result) (c .before .before .before .before .inside-field .ensures) (closed (c .before .before)) in
+    let f = quoted-fits (a .args .delimiter) (a .args .width) (a .args .alone) (a .args .s .now) (a .args .x) (a .pre .1 .0) (c .before .before .before .before .inside-field .result) (c .before .before .before .before .inside-field .ensures) (closed (c .before .before)) in
     omega (arith, f .lines)
 
 ended-by-requires : tie.Need-ended-by-requires
 ended-by-requires c κs =
     let a = c .before .before .before .before .before .before .before .before in
-    quoted-fits (a .args .delimiter) (a .args .width) (a .args .s .now) (a .args .x) (a .pre .1 .0) (c .before .before .before .before .inside-field .result) (c .before .before .before .before .inside-field .ensures) (closed (c .before .before))
+    quoted-fits (a .args .delimiter) (a .args .width) (a .args .alone) (a .args .s .now) (a .args .x) (a .pre .1 .0) (c .before .before .before .before .inside-field .result) (c .before .before .before .before .inside-field .ensures) (closed (c .before .before))
 
 returns-3 : tie.Need-returns-3
 returns-3 c =
     let a = c .before .before .before .before .before .before .before .before .before in
     let q = c .before .before .before .before .before .inside-field in
     rw (c .ended-by .ensures, c .before .before .end-at .ensures, c .before .last-line .ensures)
-    (goes-quoted (a .args .delimiter) (a .args .width) (a .args .s .now) (a .args .x) (a .pre .1 .0) (q .result) (q .ensures) (closed (c .before .before .before)) (c .before .before .before .before .before .before .if1 .left) (a .pre .1 .1))
+    (goes-quoted (a .args .delimiter) (a .args .width) (a .args .alone) (a .args .s .now) (a .args .x) (a .pre .1 .0) (q .result) (q .ensures) (closed (c .before .before .before)) (c .before .before .before .before .before .before .if1 .left) (a .pre .1 .1))
 
 pub at-quote-spec : {M : Type 1} → statement M
 at-quote-spec =

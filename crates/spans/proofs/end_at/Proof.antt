@@ -23,8 +23,14 @@ is-break-requires c κs = search needs
 returns-3 : tie.Need-returns-3
 returns-3 c = rw (ne-eqb _ _ (c .before .before .before .if1 .left), eq-eqb _ _ (c .before .before .if2 .left), sym (c .before .is-break .ensures) ∙ c .if3 .taken)
 
+shared-slice-read-if4 : tie.Need-shared-slice-read-if4
+shared-slice-read-if4 c = search needs
+
 returns-4 : tie.Need-returns-4
-returns-4 c = rw (ne-eqb _ _ (c .before .before .before .if1 .left), eq-eqb _ _ (c .before .before .if2 .left), sym (c .before .is-break .ensures) ∙ c .if3 .left)
+returns-4 c = rw (ne-eqb _ _ (c .before .before .before .before .before .if1 .left), eq-eqb _ _ (c .before .before .before .before .if2 .left), sym (c .before .before .before .is-break .ensures) ∙ c .before .before .if3 .left, c .if4 .taken)
+
+returns-5 : tie.Need-returns-5
+returns-5 c = rw (ne-eqb _ _ (c .before .before .before .before .before .if1 .left), eq-eqb _ _ (c .before .before .before .before .if2 .left), sym (c .before .before .before .is-break .ensures) ∙ c .before .before .if3 .left, c .if4 .left)
 
 pub end-at-spec : {M : Type 1} → statement M
 end-at-spec =
@@ -36,4 +42,6 @@ end-at-spec =
     returns-2
     is-break-requires
     returns-3
-    returns-4)
+    shared-slice-read-if4
+    returns-4
+    returns-5)

@@ -22,8 +22,17 @@ row-on-requires c κs = search needs
 returns-2 : tie.Need-returns-2
 returns-2 c = rw (c .row-on .ensures, ne-eqb _ _ (c .before .before .if1 .left), eq-eqb _ _ (c .before .if2 .taken))
 
+add-row-on-2 : tie.Need-add-row-on-2
+add-row-on-2 c = search needs
+
+row-on-requires-2 : tie.Need-row-on-requires-2
+row-on-requires-2 c κs = search needs
+
 returns-3 : tie.Need-returns-3
-returns-3 c = rw (ne-eqb _ _ (c .before .if1 .left), ne-eqb _ _ (c .if2 .left))
+returns-3 c = rw (c .row-on2 .ensures, ne-eqb _ _ (c .before .before .before .if1 .left), ne-eqb _ _ (c .before .before .if2 .left), eq-eqb _ _ (c .before .if3 .taken))
+
+returns-4 : tie.Need-returns-4
+returns-4 c = rw (ne-eqb _ _ (c .before .before .if1 .left), ne-eqb _ _ (c .before .if2 .left), ne-eqb _ _ (c .if3 .left))
 
 pub ended-by-spec : {M : Type 1} → statement M
 ended-by-spec =
@@ -35,4 +44,7 @@ ended-by-spec =
     add-row-on
     row-on-requires
     returns-2
-    returns-3)
+    add-row-on-2
+    row-on-requires-2
+    returns-3
+    returns-4)

@@ -31,12 +31,15 @@ stop-table-requires c κs = search needs
 inner-table-requires : tie.Need-inner-table-requires
 inner-table-requires c κs = search needs
 
+is-alone-requires : tie.Need-is-alone-requires
+is-alone-requires c κs = search needs
+
 walk-on-requires : tie.Need-walk-on-requires
 walk-on-requires c κs =
-    (omega (arith, c .before .before .before .before .before .before .if1 .left), (c .before .before .inner-table .ensures, (c .before .before .before .before .before .is-level .ensures (not-false (c .before .before .before .before .before .is-level .result) (c .before .before .before .before .if2 .left)), c .before .before .before .stop-table .ensures)))
+    (omega (arith, c .before .before .before .before .before .before .before .if1 .left), (c .before .before .before .inner-table .ensures, (c .before .before .before .before .before .before .is-level .ensures (not-false (c .before .before .before .before .before .before .is-level .result) (c .before .before .before .before .before .if2 .left)), c .before .before .before .before .stop-table .ensures, c .before .before .is-alone .ensures)))
 
 returns-3 : tie.Need-returns-3
-returns-3 c = let a = c .before .before .before .before .before .before .before .before .before .args in walked-leads (a .check) (a .s .now) (a .at) (c .walk-on .result) (c .walk-on .ensures)
+returns-3 c = let a = c .before .before .before .before .before .before .before .before .before .before .args in walked-leads (a .check) (a .s .now) (a .at) (c .walk-on .result) (c .walk-on .ensures)
 
 pub rows-spec : {M : Type 1} → statement M
 rows-spec =
@@ -49,5 +52,6 @@ rows-spec =
     returns-2
     stop-table-requires
     inner-table-requires
+    is-alone-requires
     walk-on-requires
     returns-3)

@@ -8,23 +8,23 @@ use Rattle.runs.specs.Runs.{isInner}
 use Rattle.runs.specs.Words.{Marks}
 use Rattle.runs.proofs.Words.{block}
 use Rattle.spans.specs.declared.Walk.{Walk}
-use Rattle.spans.specs.Walk.{Walking}
+use Rattle.spans.specs.Walk.{loneEnds, Walking}
 use Rattle.spans.proofs.Passing.{walking-start}
 use Rattle.spans.proofs.Words.{Ground, Reading, sized, Mark, first-mark, no-mark, goes-on}
 use Rattle.spans.proofs.walk_on.Statement.{statement}
 use Rattle.spans.proofs.walk_on.Tie as tie
 
 abbrev Inv-loop2 : tie.InvT-loop2
-Inv-loop2 check t inner s at x₀ i e w₀ x w = Reading check t s at x e w × Marks inner isInner
+Inv-loop2 check alone t inner s at x₀ i e w₀ x w = Reading check t s at x e w × Marks inner isInner × (alone ≡ loneEnds check)
 
 abbrev μ-loop2 : tie.MeasureT-loop2
-μ-loop2 check t inner s at x₀ i e w₀ x w = length s - x .at
+μ-loop2 check alone t inner s at x₀ i e w₀ x w = length s - x .at
 
 abbrev Inv-loop : tie.InvT-loop
-Inv-loop check t inner s at x₀ x = Walking check s at x × Ground check t s × Marks inner isInner
+Inv-loop check alone t inner s at x₀ x = Walking check s at x × Ground check t s × Marks inner isInner × (alone ≡ loneEnds check)
 
 abbrev μ-loop : tie.MeasureT-loop
-μ-loop check t inner s at x₀ x = length s - x .at
+μ-loop check alone t inner s at x₀ x = length s - x .at
 
 start-of-requires : tie.Need-start-of-requires Inv-loop2 μ-loop2 Inv-loop μ-loop
 start-of-requires c κs = tt
@@ -36,6 +36,7 @@ loop-holds c =
       rw (c .start-of .ensures .0) (walking-start (a .args .check) (a .args .s .now) (a .args .at) (a .pre .1 .1 .0) (c .start-of .ensures .1) (a .pre .0)),
       record { stops = a .pre .1 .1 .1; bytes = λ j. omega (arith, known j) },
       a .pre .1 .0,
+      a .pre .1 .1 .2,
     )
 
 block-end-requires : tie.Need-block-end-requires Inv-loop2 μ-loop2 Inv-loop μ-loop
@@ -50,7 +51,7 @@ loop2-holds c =
     let l = c .before .before .before .before .loop in
     let k = block (a .t .now) (a .s .now) (l .x .at) (c .marks-64 .result) (c .before .before .if1 .taken) (c .marks-64 .ensures) in
     let e = c .before .block-end .ensures in
-    (record { walking = l .inv .0; ground = l .inv .1; marked = rw (sym e) at (k .marked); within = omega (arith, e, k .within); small = omega (arith, e, k .small) }, l .inv .2)
+    (record { walking = l .inv .0; ground = l .inv .1; marked = rw (sym e) at (k .marked); within = omega (arith, e, k .within); small = omega (arith, e, k .small) }, l .inv .2, l .inv .3)
 
 -- the first mark of a word that has one
 at-first :
@@ -66,7 +67,7 @@ to-mark : (c : tie.After-placed-at Inv-loop2 μ-loop2 Inv-loop μ-loop) → let 
 to-mark c = rw (c .placed-at .ensures) (at-first (c .before .before) .walking)
 
 behind-mark : (c : tie.After-at-mark Inv-loop2 μ-loop2 Inv-loop μ-loop) → let a = c .before .before .before .before .before .before .before .before .before .before .before .before .args in Walking (a .check) (a .s .now) (a .at) (c .at-mark .result)
-behind-mark c = c .at-mark .ensures .goes (c .before .before .before .before .before .before .before .before .before .before .before .before .args .check) refl refl (c .before .before .before .before .before .before .before .before .before .before .before .before .args .at) (to-mark (c .before))
+behind-mark c = c .at-mark .ensures .goes (c .before .before .before .before .before .before .before .before .before .before .before .before .args .check) refl refl (sym (c .before .before .before .before .loop2 .inv .2)) (c .before .before .before .before .before .before .before .before .before .before .before .before .args .at) (to-mark (c .before))
 
 at-is : (c : tie.After-placed-at Inv-loop2 μ-loop2 Inv-loop μ-loop) → let l = c .before .before .before .loop2 in c .placed-at .result .at ≡ l .x .at + trailingZeros 64 (l .w)
 at-is c = ap (λ (q : Walk). q .at) (c .placed-at .ensures)
@@ -119,6 +120,7 @@ loop2-again c =
       goes-on (a .check) (a .t .now) (a .s .now) (a .at) (l .x) e (l .w) (l .inv .0) (trailingZeros 64 (l .w)) (z .result .at - y .at) (c .shifted .result) (z .result)
           (omega arith) (behind-mark (c .before .before .before .before .before .before)) (c .shifted .ensures),
       l .inv .1,
+      l .inv .2,
     )
 
 later-requires : tie.Need-later-requires Inv-loop2 μ-loop2 Inv-loop μ-loop
@@ -143,7 +145,7 @@ loop-again c =
     let l = c .before .before .before .loop2 in
     let e = c .before .before .before .before .before .block-end .result in
     let s = no-mark (a .args .check) (a .args .t .now) (a .args .s .now) (a .args .at) (l .x) e (l .w) (l .inv .0) (c .before .before .loop2-test .left) in
-    (rw (c .placed-at2 .ensures, c .before .later .ensures) s, l .inv .0 .ground, l .inv .1)
+    (rw (c .placed-at2 .ensures, c .before .later .ensures) s, l .inv .0 .ground, l .inv .1, l .inv .2)
 
 returns-2 : tie.Need-returns-2 Inv-loop2 μ-loop2 Inv-loop μ-loop
 returns-2 c = c .before .before .loop .inv .0
