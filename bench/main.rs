@@ -68,7 +68,11 @@ fn main() {
     println!(
         "16 MiB each, the least of {TURNS} turns or more in {seconds} s, buffers cleared before."
     );
-    println!("The stream has pieces of {PIECE} bytes, and as much room in text, ends and rows.");
+    if ours::STREAMS {
+        println!(
+            "The stream has pieces of {PIECE} bytes, and as much room in text, ends and rows."
+        );
+    }
     println!("Ratio: of our check to the ordinary check, of our read to csv-core's,");
     println!("of our stream to our read.");
     println!(
@@ -160,9 +164,8 @@ impl Times {
     }
 
     fn ratio(&self, job: usize, to: usize) -> Option<f64> {
-        self.least[to]
-            .is_finite()
-            .then(|| self.least[job] / self.least[to])
+        let ratio = self.least[job] / self.least[to];
+        (self.least[job].is_finite() && self.least[to].is_finite()).then(|| ratio)
     }
 }
 
