@@ -63,9 +63,14 @@ module _ (d : Dialect) where
       let z = record-last r in
       record { es = c ∷ z .es; e = z .e; m = z .m; h = z .h; is = ap (λ (l : List Content). c ∷ l) (z .is); fields = Fields.more p k (z .fields); begun = z .begun }
 
+  -- a record more before the rest
+  far-more :
+      {f g h : Bytes} {cs es : List Content} {t : Table} {e : Content} {m : ℕ} → Record d f cs g → Break d g h → SoFar d h t es e m → SoFar d f (cs ∷ t) es e m
+  far-more r k (so-far x y z) = so-far (Records.more r k x) y z
+
   ends-more : {f g h : Bytes} {cs : List Content} {t : Table} → Record d f cs g → Break d g h → Ends d h t → Ends d f (cs ∷ t)
-  ends-more r k (at-break (so-far x y z)) = at-break (so-far (Records.more r k x) y z)
-  ends-more {cs} r k (in-record u es e m q (so-far x y z)) = in-record (cs ∷ u) es e m (ap (λ (l : Table). cs ∷ l) q) (so-far (Records.more r k x) y z)
+  ends-more r k (at-break v) = at-break (far-more r k v)
+  ends-more {cs} r k (in-record u es e m q v) = in-record (cs ∷ u) es e m (ap (λ (l : Table). cs ∷ l) q) (far-more r k v)
 
   file-ends : {f : Bytes} {t : Table} {e : Ending} → File d f t e → Ends d f t
   file-ends (File.one r) = let z = record-last r in in-record [] (z .es) (z .e) (z .m) (ap (λ (l : List Content). l ∷ []) (z .is)) (so-far Records.none (z .fields) (z .begun))
@@ -183,10 +188,7 @@ module _ (d : Dialect) (valid : T (delimits (d .delimiterByte))) where
   broken-far : {f : Bytes} {t : Table} {e : Ending} → missing e ≡ 0 → File d f t e → SoFar d f t [] [] 0
   broken-far z (File.one r) = absurd (omega (arith, z))
   broken-far z (File.ended r k) = so-far (Records.more r k Records.none) Fields.none (Begun.empty Blanks.none)
-  broken-far z (File.more r k p) = more r k (broken-far z p)
-    where
-      more : {f g h : Bytes} {cs : List Content} {t : Table} → Record d f cs g → Break d g h → SoFar d h t [] [] 0 → SoFar d f (cs ∷ t) [] [] 0
-      more r k (so-far x y z) = so-far (Records.more r k x) y z
+  broken-far z (File.more r k p) = far-more d r k (broken-far z p)
 
   reading-far : {f : Bytes} {t : Table} {r : ℕ} → (f ≡ []) ⊎ EndsInBreak f → Reading d f t r → SoFar d f t [] [] 0
   reading-far h (nothing empty) = so-far Records.none Fields.none (Begun.empty Blanks.none)
