@@ -6,7 +6,7 @@ use mathlib.Core.Bool.{Bool, true, false, cond, _&&_}
 use mathlib.Core.List.{[], _∷_, _++_}
 use lib.Dec.{leb, ltb}
 use lib.ListN.{length, replicate}
-use borrow.Author.Tests.{leb-true, leb-false, lt-ltb, le-ltb}
+use borrow.Author.Tests.{leb-true, leb-false, le-leb, lt-ltb, le-ltb}
 use Rattle.format.specs.Table.{Bytes}
 use Rattle.state.specs.declared.Check.{Check}
 use Rattle.state.specs.Check.{fed}
@@ -44,6 +44,9 @@ module _ (s : Stream) (r : Room) where
 -- a byte that shows a refusal ends the stream
 pub shown-over : (e : Check) → shown e ≡ true → isOver (onward e) ≡ true
 shown-over e h = rw h
+
+pub shown-open : (e : Check) → shown e ≡ false → isOver (onward e) ≡ false
+shown-open e h = rw h
 
 -- what a byte puts out
 pub due-is :
@@ -84,6 +87,10 @@ pub short-is :
     → shortOf o r ≡ cond (leb (length (o .text)) (r .text)) (cond (leb (length (o .ends)) (r .ends)) (cond (leb (length (o .rows)) (r .rows)) 0 13) 12) 11
 unfolding shortOf
 short-is o r = refl
+
+pub parts-fit : (o : Out) (r : Room) → length (o .text) ≤ r .text → length (o .ends) ≤ r .ends → length (o .rows) ≤ r .rows → fits o r ≡ true
+unfolding fits
+parts-fit o r x y z = rw (le-leb (length (o .text)) (r .text) x, le-leb (length (o .ends)) (r .ends) y, le-leb (length (o .rows)) (r .rows) z)
 
 pub fits-parts : (o : Out) (r : Room) → fits o r ≡ true → (length (o .text) ≤ r .text) × (length (o .ends) ≤ r .ends) × (length (o .rows) ≤ r .rows)
 unfolding fits

@@ -1,4 +1,2 @@
 pub mod Passing
 pub mod Raised
-pub mod Room
-pub mod Window

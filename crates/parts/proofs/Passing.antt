@@ -21,10 +21,11 @@ use Rattle.stride.specs.Stride.{Ample as Enough}
 use Rattle.output.specs.Out.{nothing}
 use Rattle.output.specs.Stream.{shown, Room, left, onward, streamed}
 use Rattle.taking.specs.declared.Flow.{Flow}
-use Rattle.taking.specs.Walk.{roomAt, restOf, adding, Inside, Put, Grew}
-use Rattle.parts.specs.Parts.{Plain, dialectOf, putOut, Ample, Raisable}
-use Rattle.taking.proofs.Growing.{put-none, put-size}
-use Rattle.parts.proofs.Window.{Small, Holds, windowed, beyond}
+use Rattle.taking.specs.Walk.{roomAt, restOf, adding, Inside, insideBy, Put, Grew, Unmoved}
+use Rattle.room.specs.Room.{Plain, dialectOf, putOut, Ample}
+use Rattle.room.proofs.Window.{Small, Holds, windowed, beyond}
+use Rattle.parts.specs.Parts.{Raisable}
+use Rattle.taking.proofs.Growing.{by-inside, grew-none, put-none, put-size}
 
 -- a part of a list from one place to another
 module _ {A : Type 0} (l : List A) (from to : ℕ) (o : from ≤ to) (v : to ≤ length l) where
@@ -49,10 +50,12 @@ module _ {A : Type 0} (l : List A) (from to : ℕ) (o : from ≤ to) (v : to ≤
       let f : take (to - 0) l ≡ p ++ between = ap (take (to - 0)) e ∙ take-at (p ++ between) (drop to l) (to - 0) m in
       ap (drop from) f ∙ drop-at p between from n
 
--- room for more is room
-pub ample-inside : {p : Flow} {n : ℕ} {piece text ends rows : List ℕ} → Ample p n piece text ends rows → Inside p piece text ends rows
-ample-inside m =
-    record { taken-in = omega (arith, m .taken-room); text-in = omega (arith, m .text-room); ends-in = omega (arith, m .ends-room); rows-in = omega (arith, m .rows-room) }
+-- nothing is taken
+pub stayed :
+    (p : Flow) (piece text : Bytes) (ends rows : List ℕ)
+    → (insideBy p (length piece) (length text) (length ends) (length rows) ≡ true → Grew piece p text ends rows p text ends rows (restOf p piece text ends rows))
+    × (insideBy p (length piece) (length text) (length ends) (length rows) ≡ false → Unmoved p text ends rows p text ends rows)
+stayed p piece text ends rows = (λ e. grew-none (by-inside p piece text ends rows e), λ e. record { flow = refl; text-stays = refl; ends-stay = refl; rows-stay = refl })
 
 -- over the limit
 module _ {piece text : Bytes} {ends rows : List ℕ} {p : Flow} (w : Inside p piece text ends rows) (plain : Plain p) (to : ℕ) (on : p .taken ≤ to) (v : to ≤ length piece) where
@@ -100,35 +103,41 @@ module _ {piece text ends rows : List ℕ} {p : Flow} {n : ℕ} (m : Ample p n p
   part-length = between-length piece (p .taken) goal on (m .taken-room)
 
   pub part-grew :
-      {e : Check} → e ≡ fedAll (p .state .check) part → shown e ≡ false → e .field .content ≤ contentLimit → {text′ ends′ rows′ : List ℕ} {q : Flow}
-      → q .state ≡ onward e → q .taken ≡ goal
-      → Put text (p .text) (putOut (p .state .check) part .text) text′ (q .text)
-      → Put ends (p .ends) (putOut (p .state .check) part .ends) ends′ (q .ends)
-      → Put rows (p .rows) (putOut (p .state .check) part .rows) rows′ (q .rows)
+      {e : Check} → e ≡ fedAll (p .state .check) part → shown e ≡ false → e .field .content ≤ contentLimit → {text′ ends′ rows′ : List ℕ} {k₁ k₂ k₃ : ℕ} {q : Flow}
+      → q ≡ record { state = onward e; taken = goal; text = k₁; ends = k₂; rows = k₃; short = 0 }
+      → Put text (p .text) (putOut (p .state .check) part .text) text′ k₁
+      → Put ends (p .ends) (putOut (p .state .check) part .ends) ends′ k₂
+      → Put rows (p .rows) (putOut (p .state .check) part .rows) rows′ k₃
       → Grew piece p text ends rows q text′ ends′ rows′ (restOf q piece text′ ends′ rows′)
-  part-grew {e} i s l {text′} {ends′} {rows′} {q} st tk w₁ w₂ w₃ =
+  part-grew {e} i s l {text′} {ends′} {rows′} {k₁} {k₂} {k₃} u w₁ w₂ w₃ =
       let c : Check = p .state .check in
       let o = putOut c part in
       let r = roomAt p text ends rows in
       let k = part-length in
-      let small : Small c (length part) = record { text = omega (arith, m .small); fields = omega (arith, m .few) } in
+      let q₀ : Flow = record { state = onward e; taken = goal; text = k₁; ends = k₂; rows = k₃; short = 0 } in
+      let small : Small c (length part) = record { text = omega (arith, m .roomy .small); fields = omega (arith, m .roomy .few) } in
       let h : Holds o r = record { text = omega (arith, w₁ .room); ends = omega (arith, w₂ .room); rows = omega (arith, w₃ .room) } in
-      let x : length text - p .text - length (o .text) ≡ length text′ - q .text = omega (arith, put-size w₁, w₁ .at-is) in
-      let y : length ends - p .ends - length (o .ends) ≡ length ends′ - q .ends = omega (arith, put-size w₂, w₂ .at-is) in
-      let z : length rows - p .rows - length (o .rows) ≡ length rows′ - q .rows = omega (arith, put-size w₃, w₃ .at-is) in
-      let r′ : left o r ≡ roomAt q text′ ends′ rows′ = λ j. record { text = x j; ends = y j; rows = z j } in
-      let k′ : length part ≡ q .taken - p .taken = part-length ∙ ap (λ (j : ℕ). j - p .taken) (sym tk) in
-      record {
+      let x : length text - p .text - length (o .text) ≡ length text′ - k₁ = omega (arith, put-size w₁, w₁ .at-is) in
+      let y : length ends - p .ends - length (o .ends) ≡ length ends′ - k₂ = omega (arith, put-size w₂, w₂ .at-is) in
+      let z : length rows - p .rows - length (o .rows) ≡ length rows′ - k₃ = omega (arith, put-size w₃, w₃ .at-is) in
+      let r′ : left o r ≡ roomAt q₀ text′ ends′ rows′ = λ j. record { text = x j; ends = y j; rows = z j } in
+      rw u
+      (record {
         new = o;
         on = omega arith;
-        inside = rw tk (m .taken-room);
+        inside = m .taken-room;
         model = (λ j. streamed (plain j) (between-then piece (p .taken) goal on (m .taken-room) j) r)
             ∙ (windowed part (drop goal piece) c r small (rw i at s) (rw i at l) h
-            ∙ λ j. adding (k′ j) o (streamed ((ap onward (sym i) ∙ sym st) j) (drop (sym tk j) piece) (r′ j)));
+            ∙ λ j. adding (part-length j) o (streamed (onward (sym i j)) (drop goal piece) (r′ j)));
         text-on = w₁;
         ends-on = w₂;
         rows-on = w₃;
-      }
+      })
+
+pub ample-to :
+    {p : Flow} {n : ℕ} {piece text ends rows : List ℕ} → Ample p n piece text ends rows
+    → (p .taken ≤ p .taken + n) × Ample p (p .taken + n - p .taken) piece text ends rows
+ample-to {p} {n} m = let e : p .taken + n - p .taken ≡ n = omega arith in (omega arith, rw e m)
 
 -- entries that were put there, made greater
 sets-is : (m l : List ℕ) (at : ℕ) → at + length m ≤ length l → sets l at m ≡ take at l ++ (m ++ drop (at + length m) l)
@@ -250,12 +259,12 @@ module _ {piece text ends rows : List ℕ} {p : Flow} {to : ℕ} (o : p .taken �
 
   ends-out : raised textBefore (endsFrom (p .text)) ≡ putOut check ahead .ends
   ends-out =
-      let e : p .text + textBefore ≡ check .counts .text + check .field .content = omega (arith, m .text-count) in
+      let e : p .text + textBefore ≡ check .counts .text + check .field .content = omega (arith, m .roomy .text-count) in
       sym (ends-entries .greater) ∙ (ap endsFrom e ∙ ends-any (dialectOf check) ahead (formOf (check .form)) (check .field .held) (check .counts .text + check .field .content) u true)
 
   rows-out : raised fieldsBefore (rowsFrom (p .ends)) ≡ putOut check ahead .rows
   rows-out =
-      let e : p .ends + fieldsBefore ≡ check .counts .fields .0 = omega (arith, m .field-count) in
+      let e : p .ends + fieldsBefore ≡ check .counts .fields .0 = omega (arith, m .roomy .field-count) in
       sym (rows-entries .greater) ∙ (ap rowsFrom e ∙ rows-any (dialectOf check) ahead (formOf (check .form)) (check .counts .fields .0) u true)
 
   -- there is room for all of it
@@ -264,12 +273,12 @@ module _ {piece text ends rows : List ℕ} {p : Flow} {to : ℕ} (o : p .taken �
       let t = text-most (dialectOf check) ahead (formOf (check .form)) (check .field .held) in
       let a = ahead-length in
       record {
-        text-room = rw text-is (omega (arith, m .text-room));
-        ends-room = rw ends-are (omega (arith, ends-entries .few, m .ends-room));
-        rows-room = rw rows-are (omega (arith, rows-entries .few, m .rows-room));
-        text-small = rw text-is (omega (arith, m .text-count, m .small));
-        ends-small = rw ends-are (omega (arith, ends-entries .few, m .field-count, m .few));
-        held = omega (arith, file-length, m .small);
+        text-room = rw text-is (omega (arith, m .roomy .text-room));
+        ends-room = rw ends-are (omega (arith, ends-entries .few, m .roomy .ends-room));
+        rows-room = rw rows-are (omega (arith, rows-entries .few, m .roomy .rows-room));
+        text-small = rw text-is (omega (arith, m .roomy .text-count, m .roomy .small));
+        ends-small = rw ends-are (omega (arith, ends-entries .few, m .roomy .field-count, m .roomy .few));
+        held = omega (arith, file-length, m .roomy .small);
       }
 
   module _ {q : Head} {text′ ends′ rows′ : List ℕ} (g : Wrote false (dialectOf check) file first text ends rows q text′ ends′ rows′) (l : length file ≤ q .at) where
@@ -279,27 +288,27 @@ module _ {piece text ends rows : List ℕ} {p : Flow} {to : ℕ} (o : p .taken �
     pub text-put : Put text (p .text) (putOut check ahead .text) text′ (q .text)
     text-put =
         let e : textAhead (dialectOf check) file q ≡ [] = ap (λ (f : Bytes). textLeft (dialectOf check) f (formOf (q .form)) (q .held)) none ∙ text-none (dialectOf check) (formOf (q .form)) (q .held) in
-        subst (λ (r : List ℕ). Put text (p .text) r text′ (q .text)) text-is (grown-put (g .text-on) e (omega (arith, m .text-room)))
+        subst (λ (r : List ℕ). Put text (p .text) r text′ (q .text)) text-is (grown-put (g .text-on) e (omega (arith, m .roomy .text-room)))
 
     ends-put : Put ends (p .ends) (endsFrom (p .text)) ends′ (q .ends)
     ends-put =
         let e : endsAhead false (dialectOf check) file q ≡ [] =
         ap (λ (f : Bytes). endsLeft false (dialectOf check) f (formOf (q .form)) (q .held) (q .text) (q .begun)) none
         ∙ (ends-any (dialectOf check) [] (formOf (q .form)) (q .held) (q .text) (q .begun) false ∙ ends-none false (dialectOf check) (formOf (q .form)) (q .held) (q .text) false) in
-        subst (λ (r : List ℕ). Put ends (p .ends) r ends′ (q .ends)) ends-are (grown-put (g .ends-on) e (omega (arith, m .ends-room)))
+        subst (λ (r : List ℕ). Put ends (p .ends) r ends′ (q .ends)) ends-are (grown-put (g .ends-on) e (omega (arith, m .roomy .ends-room)))
 
     rows-put : Put rows (p .rows) (rowsFrom (p .ends)) rows′ (q .rows)
     rows-put =
         let e : rowsAhead false (dialectOf check) file q ≡ [] =
         ap (λ (f : Bytes). rowsLeft false (dialectOf check) f (formOf (q .form)) (q .ends) (q .begun)) none
         ∙ (rows-any (dialectOf check) [] (formOf (q .form)) (q .ends) (q .begun) false ∙ rows-none false (dialectOf check) (formOf (q .form)) (q .ends) false) in
-        subst (λ (r : List ℕ). Put rows (p .rows) r rows′ (q .rows)) rows-are (grown-put (g .rows-on) e (omega (arith, m .rows-room)))
+        subst (λ (r : List ℕ). Put rows (p .rows) r rows′ (q .rows)) rows-are (grown-put (g .rows-on) e (omega (arith, m .roomy .rows-room)))
 
     pub ends-raisable : Raisable ends′ (p .ends) (q .ends) textBefore
-    ends-raisable = put-raisable ends-put textBefore (p .text + check .field .held + length ahead) (ends-entries .small) (omega (arith, ahead-length, m .text-count, m .small))
+    ends-raisable = put-raisable ends-put textBefore (p .text + check .field .held + length ahead) (ends-entries .small) (omega (arith, ahead-length, m .roomy .text-count, m .roomy .small))
 
     pub rows-raisable : Raisable rows′ (p .rows) (q .rows) fieldsBefore
-    rows-raisable = put-raisable rows-put fieldsBefore (p .ends + length ahead) (rows-entries .small) (omega (arith, ahead-length, m .field-count, m .few))
+    rows-raisable = put-raisable rows-put fieldsBefore (p .ends + length ahead) (rows-entries .small) (omega (arith, ahead-length, m .roomy .field-count, m .roomy .few))
 
     pub ends-raised :
         {ends″ : List ℕ} → ends″ ≡ sets ends′ (p .ends) (raised textBefore (take (q .ends - p .ends) (drop (p .ends) ends′)))

@@ -131,7 +131,7 @@ pub extern "C" fn sv_stream_feed(
 pub extern "C" fn sv_stream_close(state: Stream, ends: &mut [u32], rows: &mut [u32]) -> Streamed
     ensures { λ r. ⌜ StreamClosed state (now (ends .entry)) (now (rows .entry)) r (now (ends .exit)) (now (rows .exit)) ⌝ }
 {
-    stream::close(state, ends, rows)
+    closing::close(state, ends, rows)
 }
 
 // Writes a table as a strict file, plain in mode 0 and full in mode 1.

@@ -1,7 +1,8 @@
 -- A whole call.
-use Prim.Native.Nat.{ℕ, _+_, _-_}
+use Prim.Native.Nat.{ℕ, _+_, _-_, _≤_, _<_}
 use native.Mathlib.Omega.{arith}
 use mathlib.Core.Path.{_≡_, refl, sym, subst, _∙_}
+use mathlib.Core.Bool.{true}
 use mathlib.Core.List.{List}
 use lib.ListN.{length}
 use Rattle.format.specs.Table.{Bytes}
@@ -13,7 +14,8 @@ use Rattle.output.specs.Promises.{Into, roomOf}
 use Rattle.output.specs.declared.Streamed.{Streamed}
 use Rattle.output.proofs.Step.{then-nothing}
 use Rattle.taking.specs.declared.Flow.{Flow}
-use Rattle.taking.specs.Walk.{stopAt, Put, Grew}
+use Rattle.taking.specs.Walk.{restOf, stopAt, insideBy, Put, Grew, Took}
+use Rattle.taking.proofs.Growing.{inside-by, grew-then, grew-inside, took-end}
 
 -- all of a call
 abbrev begun : Stream → Flow
@@ -58,3 +60,34 @@ module _ {piece text : Bytes} {ends rows : List ℕ} {s : Stream} {q : Flow} {te
         ends-is = u .1;
         rows-is = v .1;
       }))
+
+-- A turn of the walk: behind what has come, a part of the piece and then a byte, or the call ends there.
+module _
+    {piece t₀ e₀ r₀ t₁ e₁ r₁ t₂ e₂ r₂ t₃ e₃ r₃ : List ℕ} {h₀ h p q : Flow} (l : Grew piece h₀ t₀ e₀ r₀ h t₁ e₁ r₁ (restOf h piece t₁ e₁ r₁))
+    (f : insideBy h (length piece) (length t₁) (length e₁) (length r₁) ≡ true → Grew piece h t₁ e₁ r₁ p t₂ e₂ r₂ (restOf p piece t₂ e₂ r₂))
+    (g : insideBy p (length piece) (length t₂) (length e₂) (length r₂) ≡ true → Took piece p t₂ e₂ r₂ q t₃ e₃ r₃)
+  where
+    part : Grew piece h t₁ e₁ r₁ p t₂ e₂ r₂ (restOf p piece t₂ e₂ r₂)
+    part = f (inside-by h piece t₁ e₁ r₁ (grew-inside l))
+
+    byte : Took piece p t₂ e₂ r₂ q t₃ e₃ r₃
+    byte = g (inside-by p piece t₂ e₂ r₂ (grew-inside part))
+
+    further : (q .taken ≡ p .taken → ⊥) → p .taken < q .taken
+    further n = omega (arith, byte .on)
+
+    pub turn-ended : q .taken ≡ p .taken → Grew piece h₀ t₀ e₀ r₀ q t₃ e₃ r₃ (stopAt q)
+    turn-ended e = grew-then (grew-then l part) (byte .ended e)
+
+    pub turn-taken : (q .taken ≡ p .taken → ⊥) → Grew piece h₀ t₀ e₀ r₀ q t₃ e₃ r₃ (restOf q piece t₃ e₃ r₃)
+    turn-taken n = grew-then (grew-then l part) (byte .took (further n))
+
+    pub turn-less : (q .taken ≡ p .taken → ⊥) → length piece - q .taken < length piece - h .taken
+    turn-less n = let i = further n in omega (arith, part .on, byte .took i .inside)
+
+-- at the end of the piece no byte is taken
+pub turn-last :
+    {piece t₀ e₀ r₀ t₁ e₁ r₁ t₂ e₂ r₂ : List ℕ} {h₀ h q : Flow} → Grew piece h₀ t₀ e₀ r₀ h t₁ e₁ r₁ (restOf h piece t₁ e₁ r₁)
+    → (insideBy h (length piece) (length t₁) (length e₁) (length r₁) ≡ true → Took piece h t₁ e₁ r₁ q t₂ e₂ r₂) → length piece ≤ h .taken
+    → Grew piece h₀ t₀ e₀ r₀ q t₂ e₂ r₂ (stopAt q)
+turn-last {piece} {t₁ = t₁} {e₁} {r₁} {h = h} l g k = let w = g (inside-by h piece t₁ e₁ r₁ (grew-inside l)) in grew-then l (w .ended (took-end w k))

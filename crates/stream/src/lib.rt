@@ -1,10 +1,9 @@
-// Fields while pieces go in: start a stream with a dialect, feed it pieces with room for what comes out,
-// and close it.
+// Fields while pieces go in: start a stream with a dialect, and feed it pieces with room for what comes
+// out. `closing` closes it.
 //
 // The crate `output` has the state, and says what a call does to it and what that means; `parts` takes
 // many bytes of a piece at once, and `taking` one.
-ghost use mathlib.Core.Path.{_≡_};
-ghost use Rattle.output.specs.Promises.{Started, Fed, Closed};
+ghost use Rattle.output.specs.Promises.{Started, Fed};
 ghost use Rattle.taking.specs.Walk.{stopAt, Grew};
 use output::Stream;
 use output::Streamed;
@@ -47,13 +46,14 @@ fn flowed(s: Stream, piece: &[u8], text: &mut [u8], ends: &mut [u32], rows: &mut
     };
     let mut most = MOST;
     while h.taken < piece.len() {
-        let p = parts::passed(h, most, piece, text, ends, rows);
-        most = next_most(most, p.taken == h.taken);
-        let q = taking::take_byte(p, piece, text, ends, rows);
-        if q.taken == p.taken {
-            return q;
+        let from = h.taken;
+        h = parts::passed(h, most, piece, text, ends, rows);
+        let at = h.taken;
+        most = next_most(most, at == from);
+        h = taking::take_byte(h, piece, text, ends, rows);
+        if h.taken == at {
+            return h;
         }
-        h = q;
     }
     taking::take_byte(h, piece, text, ends, rows)
 }
@@ -72,38 +72,4 @@ fn next_most(most: usize, stayed: bool) -> usize {
         return most / 2;
     }
     if MOST <= most { most } else { most + most }
-}
-
-// Closes the file: both last ends at once. Short of room it writes nothing, and may be repeated.
-pub fn close(s: Stream, ends: &mut [u32], rows: &mut [u32]) -> Streamed
-    ensures { λ r. ⌜ Closed s (now (ends .entry)) (now (rows .entry)) r (now (ends .exit)) (now (rows .exit)) ⌝ }
-{
-    if output::is_over(s) {
-        return output::told(s, 0, 0, 0, 0, 0);
-    }
-    let a = pieces::ask(s.check);
-    if (a.refusal != 0) | (s.check.begun == 0) {
-        return output::told(ended(s), 0, 0, 0, 0, 0);
-    }
-    if ends.len() == 0 {
-        return output::told(s, 0, 0, 0, 0, 12);
-    }
-    if rows.len() == 0 {
-        return output::told(s, 0, 0, 0, 0, 13);
-    }
-    ends[0] = a.totals.text;
-    rows[0] = a.totals.fields.0;
-    output::told(ended(s), 0, 0, 1, 1, 0)
-}
-
-// The close has given its answer.
-fn ended(s: Stream) -> Stream
-    ensures { λ r. ⌜ r ≡ record { check = s .check; early = s .early; closed = 1 } ⌝ }
-{
-    let check = s.check;
-    Stream {
-        check,
-        early: s.early,
-        closed: 1,
-    }
 }

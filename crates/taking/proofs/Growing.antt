@@ -3,7 +3,7 @@ use Prim.Native.Nat.{ℕ, suc, _+_, _-_, _≤_, _<_, min}
 use native.Mathlib.Numerals.{add-one}
 use native.Mathlib.Omega.{arith}
 use mathlib.Core.Path.{_≡_, refl, sym, ap, _∙_}
-use mathlib.Core.Bool.{Bool, true, false, cond, _&&_, true≢false}
+use mathlib.Core.Bool.{Bool, true, false, cond, _&&_, _||_, true≢false}
 use lib.Dec.{leb}
 use mathlib.Core.List.{List, [], _∷_, _++_, append-nil}
 use lib.ListN.{length, drop, getD, replicate, length-append, length-replicate, drop-of-length-le}
@@ -17,9 +17,17 @@ use Rattle.output.specs.Out.{Out, nothing, then}
 use Rattle.output.specs.Stream.{shown, isOver, putsText, endsField, endsRecord, byteLeft, when, blanksDue, due, Room, fits, left, shortOf, Called, idle, onward, taking, streamed}
 use Rattle.output.proofs.Calls.{then-then}
 use Rattle.output.specs.declared.Due.{Due}
-use Rattle.output.proofs.Bytewise.{due-is, short-is, streamed-none, streamed-over, streamed-shown, streamed-taken, streamed-stuck}
+use Rattle.output.proofs.Bytewise.{due-is, short-is, short-fits, short-not, fits-parts, streamed-none, streamed-over, streamed-shown, streamed-taken, streamed-stuck}
 use Rattle.taking.specs.declared.Flow.{Flow}
 use Rattle.taking.specs.Walk.{roomAt, restOf, stopAt, adding, Inside, insideBy, Put, Grew, Took, one}
+
+-- a test that holds, and one of which neither half does
+pub on-true : {A B : Type 0} {x : Bool} → x ≡ true → A → (x ≡ true → A) × (x ≡ false → B)
+on-true e a = (λ i. a, λ i. absurd (true≢false (sym e ∙ i)))
+
+pub neither : (x y : Bool) → (x || y) ≡ false → (x ≡ false) × (y ≡ false)
+neither true y h = absurd (true≢false h)
+neither false y h = (refl, h)
 
 -- a buffer
 module _ {A : Type 0} where
@@ -100,6 +108,40 @@ pub grew-sizes :
     → (length text′ ≡ length text) × (length ends′ ≡ length ends) × (length rows′ ≡ length rows)
 grew-sizes g = (put-size (g .text-on), put-size (g .ends-on), put-size (g .rows-on))
 
+-- what the code has computed of a byte's output
+when-length : (x : Bool) (n : ℕ) → length (when x n) ≡ one x
+when-length true n = refl
+when-length false n = refl
+
+module _ (m : ℕ) (c : Check) (b : ℕ) (e : Check) {d : Due} (q : d ≡ record { blanks = blanksDue m c e; byte = putsText c e && byteLeft c; end = endsField e; row = endsRecord e }) where
+  due-text : due m c b e .text ≡ replicate (d .blanks) 0x20 ++ when (d .byte) b
+  due-text = rw q (ap (λ (o : Out). o .text) (due-is m c b e))
+
+  due-ends : due m c b e .ends ≡ when (d .end) (e .counts .text)
+  due-ends = rw q (ap (λ (o : Out). o .ends) (due-is m c b e))
+
+  due-rows : due m c b e .rows ≡ when (d .row) (e .counts .fields .0)
+  due-rows = rw q (ap (λ (o : Out). o .rows) (due-is m c b e))
+
+  text-length : length (due m c b e .text) ≡ d .blanks + one (d .byte)
+  text-length =
+      let sp : ℕ = 0x20 in
+      ap length due-text ∙ (length-append (replicate (d .blanks) sp) (when (d .byte) b) ∙ rw (length-replicate (d .blanks) sp, when-length (d .byte) b))
+
+  ends-length : length (due m c b e .ends) ≡ one (d .end)
+  ends-length = ap length due-ends ∙ when-length (d .end) (e .counts .text)
+
+  rows-length : length (due m c b e .rows) ≡ one (d .row)
+  rows-length = ap length due-rows ∙ when-length (d .row) (e .counts .fields .0)
+
+  blanks-are : d .blanks ≡ blanksDue m c e
+  blanks-are = ap (λ (x : Due). x .blanks) q
+
+  short-is-of :
+      (r : Room)
+      → cond (leb (d .blanks + one (d .byte)) (r .text)) (cond (leb (one (d .end)) (r .ends)) (cond (leb (one (d .row)) (r .rows)) 0 13) 12) 11 ≡ shortOf (due m c b e) r
+  short-is-of r = sym (short-is (due m c b e) r ∙ rw (text-length, ends-length, rows-length))
+
 -- where the call ends
 abbrev pub stilled : Flow → ℕ → Flow
 stilled p n = record { state = p .state; taken = p .taken; text = p .text; ends = p .ends; rows = p .rows; short = n }
@@ -119,11 +161,18 @@ module _ {piece text : Bytes} {ends rows : List ℕ} {p : Flow} (w : Inside p pi
       }
 
   -- at the end of the piece, or of the stream
-  pub end-grew : length piece ≤ p .taken → Grew piece p text ends rows (stilled p 0) text ends rows (stopAt (stilled p 0))
+  end-grew : length piece ≤ p .taken → Grew piece p text ends rows (stilled p 0) text ends rows (stopAt (stilled p 0))
   end-grew l = idle-grew (ap (λ (f : Bytes). streamed (p .state) f (roomAt p text ends rows)) (drop-of-length-le piece l) ∙ streamed-none (p .state) (roomAt p text ends rows))
 
-  pub over-grew : isOver (p .state) ≡ true → Grew piece p text ends rows (stilled p 0) text ends rows (stopAt (stilled p 0))
+  over-grew : isOver (p .state) ≡ true → Grew piece p text ends rows (stilled p 0) text ends rows (stopAt (stilled p 0))
   over-grew h = idle-grew (streamed-over (p .state) (roomAt p text ends rows) (drop (p .taken) piece) h)
+
+  pub at-end-grew : (leb (length piece) (p .taken) || isOver (p .state)) ≡ true → Grew piece p text ends rows (stilled p 0) text ends rows (stopAt (stilled p 0))
+  at-end-grew h = by (leb (length piece) (p .taken)) refl
+    where
+      by : (x : Bool) → leb (length piece) (p .taken) ≡ x → Grew piece p text ends rows (stilled p 0) text ends rows (stopAt (stilled p 0))
+      by true e = end-grew (leb-true (length piece) (p .taken) e)
+      by false e = over-grew (rw e at h)
 
   pub ended-took : {q : Flow} → q ≡ stilled p 0 → Grew piece p text ends rows (stilled p 0) text ends rows (stopAt (stilled p 0)) → Took piece p text ends rows q text ends rows
   ended-took e g = rw e (record { on = omega arith; took = λ l. absurd (omega arith); ended = λ z. g })
@@ -148,12 +197,17 @@ module _ {piece text : Bytes} {ends rows : List ℕ} {p : Flow} (w : Inside p pi
     abbrev next : ℕ → ℕ → ℕ → Flow
     next n m k = record { state = onward (fed c b); taken = p .taken + 1; text = n; ends = m; rows = k; short = 0 }
 
+    abbrev behind-byte : Check → Flow
+    behind-byte d = record { state = onward d; taken = p .taken + 1; text = p .text; ends = p .ends; rows = p .rows; short = 0 }
+
     one-on : p .taken + 1 - p .taken ≡ 1
     one-on = omega arith
 
     -- that shows a refusal
-    pub shown-took : shown (fed c b) ≡ true → {q : Flow} → q ≡ next (p .text) (p .ends) (p .rows) → Took piece p text ends rows q text ends rows
-    shown-took i e =
+    pub shown-took : {d : Check} → d ≡ fed c b → shown d ≡ true → {q : Flow} → q ≡ record { state = onward d; taken = p .taken + 1; text = p .text; ends = p .ends; rows = p .rows; short = 0 } → Took piece p text ends rows q text ends rows
+    shown-took x j u =
+        let i : shown (fed c b) ≡ true = rw x at j in
+        let e = u ∙ ap behind-byte x in
         let v : isOver (onward (fed c b)) ≡ true = rw i in
         let q₀ = next (p .text) (p .ends) (p .rows) in
         let y : restOf q₀ piece text ends rows ≡ idle (onward (fed c b)) = streamed-over (onward (fed c b)) (roomAt q₀ text ends rows) (drop (p .taken + 1) piece) v in
@@ -176,7 +230,7 @@ module _ {piece text : Bytes} {ends rows : List ℕ} {p : Flow} (w : Inside p pi
 
     module _ (i : shown (fed c b) ≡ false) where
       -- whose output fits
-      pub due-took :
+      due-took :
           fits o (roomAt p text ends rows) ≡ true → {q : Flow} {text′ ends′ rows′ : List ℕ}
           → q ≡ next (p .text + length (o .text)) (p .ends + length (o .ends)) (p .rows + length (o .rows))
           → p .text + length (o .text) ≤ length text → p .ends + length (o .ends) ≤ length ends → p .rows + length (o .rows) ≤ length rows
@@ -214,7 +268,7 @@ module _ {piece text : Bytes} {ends rows : List ℕ} {p : Flow} (w : Inside p pi
       abbrev blanks : ℕ
       blanks = min (blanksDue (p .state .early) c (fed c b)) (length text - p .text)
 
-      pub stuck-took :
+      stuck-took :
           fits o (roomAt p text ends rows) ≡ false → {q : Flow} {text′ : List ℕ}
           → q ≡ record { state = record { check = c; early = p .state .early + blanks; closed = p .state .closed }; taken = p .taken; text = p .text + blanks; ends = p .ends; rows = p .rows; short = shortOf o (roomAt p text ends rows) }
           → text′ ≡ sets text (p .text) (replicate blanks 0x20) → Took piece p text ends rows q text′ ends rows
@@ -246,58 +300,79 @@ module _ {piece text : Bytes} {ends rows : List ℕ} {p : Flow} (w : Inside p pi
             };
           })
 
--- what the code has computed of a byte's output
-pub when-length : (x : Bool) (n : ℕ) → length (when x n) ≡ one x
-when-length true n = refl
-when-length false n = refl
+      -- by what the code has computed of it, and of the buffer that is short
+      abbrev dueBy : Check → Due
+      dueBy e = record { blanks = blanksDue (p .state .early) c e; byte = putsText c e && byteLeft c; end = endsField e; row = endsRecord e }
 
-module _ (m : ℕ) (c : Check) (b : ℕ) (e : Check) {d : Due} (q : d ≡ record { blanks = blanksDue m c e; byte = putsText c e && byteLeft c; end = endsField e; row = endsRecord e }) where
-  pub due-text : due m c b e .text ≡ replicate (d .blanks) 0x20 ++ when (d .byte) b
-  due-text = rw q (ap (λ (o : Out). o .text) (due-is m c b e))
+      abbrev shortBy : Due → ℕ
+      shortBy d =
+          cond (leb (d .blanks + one (d .byte)) (length text - p .text))
+          (cond (leb (one (d .end)) (length ends - p .ends)) (cond (leb (one (d .row)) (length rows - p .rows)) 0 13) 12) 11
 
-  pub due-ends : due m c b e .ends ≡ when (d .end) (e .counts .text)
-  due-ends = rw q (ap (λ (o : Out). o .ends) (due-is m c b e))
+      module _ {e : Check} (x : e ≡ fed c b) {d : Due} (y : d ≡ dueBy e) {n : ℕ} (z : n ≡ shortBy d) where
+        due-by : d ≡ dueBy (fed c b)
+        due-by = y ∙ ap dueBy x
 
-  pub due-rows : due m c b e .rows ≡ when (d .row) (e .counts .fields .0)
-  due-rows = rw q (ap (λ (o : Out). o .rows) (due-is m c b e))
+        short-by : n ≡ shortOf o (roomAt p text ends rows)
+        short-by = z ∙ short-is-of (p .state .early) c b (fed c b) due-by (roomAt p text ends rows)
 
-  pub text-length : length (due m c b e .text) ≡ d .blanks + one (d .byte)
-  text-length =
-      let sp : ℕ = 0x20 in
-      ap length due-text ∙ (length-append (replicate (d .blanks) sp) (when (d .byte) b) ∙ rw (length-replicate (d .blanks) sp, when-length (d .byte) b))
+        text-many : length (o .text) ≡ d .blanks + one (d .byte)
+        text-many = text-length (p .state .early) c b (fed c b) due-by
 
-  pub ends-length : length (due m c b e .ends) ≡ one (d .end)
-  ends-length = ap length due-ends ∙ when-length (d .end) (e .counts .text)
+        ends-many : length (o .ends) ≡ one (d .end)
+        ends-many = ends-length (p .state .early) c b (fed c b) due-by
 
-  pub rows-length : length (due m c b e .rows) ≡ one (d .row)
-  rows-length = ap length due-rows ∙ when-length (d .row) (e .counts .fields .0)
+        rows-many : length (o .rows) ≡ one (d .row)
+        rows-many = rows-length (p .state .early) c b (fed c b) due-by
 
-  pub blanks-are : d .blanks ≡ blanksDue m c e
-  blanks-are = ap (λ (x : Due). x .blanks) q
+        pub put-room :
+            n ≡ 0 → (p .text + (d .blanks + one (d .byte)) ≤ length text) × ((p .ends + one (d .end) ≤ length ends) × (p .rows + one (d .row) ≤ length rows))
+        put-room k =
+            let f = fits-parts o (roomAt p text ends rows) (short-fits o (roomAt p text ends rows) (sym short-by ∙ k)) in
+            (omega (arith, f .0, text-many, w .text-in), (omega (arith, f .1, ends-many, w .ends-in), omega (arith, f .2, rows-many, w .rows-in)))
 
-  pub short-is-of :
-      (r : Room)
-      → cond (leb (d .blanks + one (d .byte)) (r .text)) (cond (leb (one (d .end)) (r .ends)) (cond (leb (one (d .row)) (r .rows)) 0 13) 12) 11 ≡ shortOf (due m c b e) r
-  short-is-of r = sym (short-is (due m c b e) r ∙ rw (text-length, ends-length, rows-length))
+        pub put-took :
+            n ≡ 0 → {q : Flow} {text′ ends′ rows′ : List ℕ}
+            → q ≡ record { state = onward e; taken = p .taken + 1; text = p .text + (d .blanks + one (d .byte)); ends = p .ends + one (d .end); rows = p .rows + one (d .row); short = 0 }
+            → text′ ≡ sets text (p .text) (replicate (d .blanks) 0x20 ++ when (d .byte) b) → ends′ ≡ sets ends (p .ends) (when (d .end) (e .counts .text))
+            → rows′ ≡ sets rows (p .rows) (when (d .row) (e .counts .fields .0)) → Took piece p text ends rows q text′ ends′ rows′
+        put-took k u t₁ t₂ t₃ =
+            let f = put-room k in
+            due-took (short-fits o (roomAt p text ends rows) (sym short-by ∙ k))
+            (u ∙ λ j. record { state = onward (x j); taken = p .taken + 1; text = p .text + sym text-many j; ends = p .ends + sym ends-many j; rows = p .rows + sym rows-many j; short = 0 })
+            (omega (arith, f .0, text-many)) (omega (arith, f .1 .0, ends-many)) (omega (arith, f .1 .1, rows-many))
+            (t₁ ∙ ap (sets text (p .text)) (sym (due-text (p .state .early) c b (fed c b) due-by)))
+            (t₂ ∙ (λ j. sets ends (p .ends) (when (d .end) (x j .counts .text))) ∙ ap (sets ends (p .ends)) (sym (due-ends (p .state .early) c b (fed c b) due-by)))
+            (t₃ ∙ (λ j. sets rows (p .rows) (when (d .row) (x j .counts .fields .0))) ∙ ap (sets rows (p .rows)) (sym (due-rows (p .state .early) c b (fed c b) due-by)))
+
+        pub stick-took :
+            (n ≡ 0 → ⊥) → {q : Flow} {text′ : List ℕ}
+            → q ≡ record { state = record { check = c; early = p .state .early + min (d .blanks) (length text - p .text); closed = p .state .closed }; taken = p .taken; text = p .text + min (d .blanks) (length text - p .text); ends = p .ends; rows = p .rows; short = n }
+            → text′ ≡ sets text (p .text) (replicate (min (d .blanks) (length text - p .text)) 0x20) → Took piece p text ends rows q text′ ends rows
+        stick-took k u t =
+            let a = blanks-are (p .state .early) c b (fed c b) due-by in
+            stuck-took (short-not o (roomAt p text ends rows) (λ s. k (short-by ∙ s)))
+            (u ∙ λ j. record { state = record { check = c; early = p .state .early + min (a j) (length text - p .text); closed = p .state .closed }; taken = p .taken; text = p .text + min (a j) (length text - p .text); ends = p .ends; rows = p .rows; short = short-by j })
+            (t ∙ λ j. sets text (p .text) (replicate (min (a j) (length text - p .text)) 0x20))
 
 -- inside by the lengths
+pub inside-parts : (p : Flow) (a b c d : ℕ) → insideBy p a b c d ≡ true → (p .taken ≤ a) × (p .text ≤ b) × (p .ends ≤ c) × (p .rows ≤ d)
+inside-parts p a b c d h =
+    let x = and-both ((leb (p .taken) a && leb (p .text) b) && leb (p .ends) c) (leb (p .rows) d) h in
+    let y = and-both (leb (p .taken) a && leb (p .text) b) (leb (p .ends) c) (x .0) in
+    let z = and-both (leb (p .taken) a) (leb (p .text) b) (y .0) in
+    (leb-true (p .taken) a (z .0), leb-true (p .text) b (z .1), leb-true (p .ends) c (y .1), leb-true (p .rows) d (x .1))
+  where
+    and-both : (x y : Bool) → (x && y) ≡ true → (x ≡ true) × (y ≡ true)
+    and-both true true h = (refl, refl)
+    and-both true false h = absurd (true≢false (sym h))
+    and-both false y h = absurd (true≢false (sym h))
+
 module _ (p : Flow) (piece text : Bytes) (ends rows : List ℕ) where
   pub by-inside : insideBy p (length piece) (length text) (length ends) (length rows) ≡ true → Inside p piece text ends rows
   by-inside h =
-      let x = and-both ((leb (p .taken) (length piece) && leb (p .text) (length text)) && leb (p .ends) (length ends)) (leb (p .rows) (length rows)) h in
-      let y = and-both (leb (p .taken) (length piece) && leb (p .text) (length text)) (leb (p .ends) (length ends)) (x .0) in
-      let z = and-both (leb (p .taken) (length piece)) (leb (p .text) (length text)) (y .0) in
-      record {
-        taken-in = leb-true (p .taken) (length piece) (z .0);
-        text-in = leb-true (p .text) (length text) (z .1);
-        ends-in = leb-true (p .ends) (length ends) (y .1);
-        rows-in = leb-true (p .rows) (length rows) (x .1);
-      }
-    where
-      and-both : (x y : Bool) → (x && y) ≡ true → (x ≡ true) × (y ≡ true)
-      and-both true true h = (refl, refl)
-      and-both true false h = absurd (true≢false (sym h))
-      and-both false y h = absurd (true≢false (sym h))
+      let x = inside-parts p (length piece) (length text) (length ends) (length rows) h in
+      record { taken-in = x .0; text-in = x .1; ends-in = x .2; rows-in = x .3 }
 
   pub inside-by : Inside p piece text ends rows → insideBy p (length piece) (length text) (length ends) (length rows) ≡ true
   inside-by w =

@@ -4,13 +4,13 @@
 // another, by how far the call has come.
 ghost use Prim.Native.Nat.{_+_, _-_, _≤_, _<_, min};
 ghost use mathlib.Core.Path.{_≡_};
-ghost use mathlib.Core.Bool.{true, false, cond};
+ghost use mathlib.Core.Bool.{true, false, cond, _||_};
 ghost use mathlib.Core.List.{_++_};
 ghost use lib.ListN.{length, replicate};
 ghost use lib.Seq.{sets};
 ghost use lib.Dec.{leb};
-ghost use Rattle.output.specs.Stream.{onward, when};
-ghost use Rattle.taking.specs.Walk.{Inside, insideBy, Took, Unmoved, one};
+ghost use Rattle.output.specs.Stream.{isOver, onward, when};
+ghost use Rattle.taking.specs.Walk.{insideBy, Took, Unmoved, one};
 use output::Due;
 use output::Stream;
 use state::Check;
@@ -42,59 +42,50 @@ pub fn take_byte(p: Flow, piece: &[u8], text: &mut [u8], ends: &mut [u32], rows:
     if !is_inside(p, piece.len(), text.len(), ends.len(), rows.len()) {
         return p;
     }
-    take_inside(p, piece, text, ends, rows)
-}
-
-// The same from a place that lies inside.
-fn take_inside(p: Flow, piece: &[u8], text: &mut [u8], ends: &mut [u32], rows: &mut [u32]) -> Flow
-    requires { ⌜ Inside p (now piece) (now text) (now ends) (now rows) ⌝ }
-    ensures { λ r. ⌜ Took (now (piece .entry)) p (now (text .entry)) (now (ends .entry)) (now (rows .entry)) r (now (text .exit)) (now (ends .exit)) (now (rows .exit)) ⌝ }
-{
-    if piece.len() <= p.taken {
-        return still(p, 0);
-    }
-    let s = p.state;
-    if output::is_over(s) {
-        return still(p, 0);
+    if is_at_end(p, piece.len()) {
+        return halted(p, p.state.early, p.text, 0);
     }
     let at = p.taken;
     let b = piece[at];
-    let e = s.check.take(b);
+    let next = at + 1;
+    let e = p.state.check.take(b);
     if output::is_shown(e) {
-        return behind(p, e, p.text, p.ends, p.rows);
+        return behind(e, next, p.text, p.ends, p.rows);
     }
-    let d = output::due_by(s.early, s.check, e);
+    let d = output::due_by(p.state.early, p.state.check, e);
     let short = short_of(p, d, text.len(), ends.len(), rows.len());
     if short != 0 {
         return stick(p, d.blanks, short, text);
     }
-    put_due(p, b, e, d, text, ends, rows)
+    put_due(p, next, b, e, d, text, ends, rows)
 }
 
-// The call ends here.
-fn still(p: Flow, short: u32) -> Flow
-    ensures { λ r. ⌜ r ≡ record { state = p .state; taken = p .taken; text = p .text; ends = p .ends; rows = p .rows; short = short } ⌝ }
+// Whether no byte is left of the piece, or the stream is over.
+fn is_at_end(p: Flow, piece: usize) -> bool
+    ensures { λ r. ⌜ r ≡ leb piece (p .taken) || isOver (p .state) ⌝ }
 {
-    let state = p.state;
-    Flow {
-        state,
-        taken: p.taken,
-        text: p.text,
-        ends: p.ends,
-        rows: p.rows,
-        short,
-    }
+    (piece <= p.taken) | output::is_over(p.state)
 }
 
-// Behind a byte, by the check's state there.
-fn behind(p: Flow, e: Check, text: usize, ends: usize, rows: usize) -> Flow
-    requires { ⌜ p .taken < 18446744073709551615 ⌝ }
-    ensures { λ r. ⌜ r ≡ record { state = onward e; taken = p .taken + 1; text = text; ends = ends; rows = rows; short = 0 } ⌝ }
+// The call ends here, with so many blanks out early.
+fn halted(p: Flow, early: u32, text: usize, short: u32) -> Flow
+    ensures { λ r. ⌜ r ≡ record { state = record { check = p .state .check; early = early; closed = p .state .closed }; taken = p .taken; text = text; ends = p .ends; rows = p .rows; short = short } ⌝ }
+{
+    let mut q = p;
+    q.state.early = early;
+    q.text = text;
+    q.short = short;
+    q
+}
+
+// Behind some bytes of the piece, by the check's state there and how much of each buffer is filled.
+pub fn behind(e: Check, taken: usize, text: usize, ends: usize, rows: usize) -> Flow
+    ensures { λ r. ⌜ r ≡ record { state = onward e; taken = taken; text = text; ends = ends; rows = rows; short = 0 } ⌝ }
 {
     let state = output::onward_from(e);
     Flow {
         state,
-        taken: p.taken + 1,
+        taken,
         text,
         ends,
         rows,
@@ -134,25 +125,13 @@ fn stick(p: Flow, blanks: u32, short: u32, text: &mut [u8]) -> Flow
 {
     let k = smaller(blanks as usize, text.len() - p.text);
     let at = fill::put_run(text, p.text, k, 0x20);
-    let check = p.state.check;
-    let state = Stream {
-        check,
-        early: p.state.early + (k as u32),
-        closed: p.state.closed,
-    };
-    Flow {
-        state,
-        taken: p.taken,
-        text: at,
-        ends: p.ends,
-        rows: p.rows,
-        short,
-    }
+    halted(p, p.state.early + (k as u32), at, short)
 }
 
-// Writes what a byte puts out, all of it.
+// Writes what a byte puts out, all of it, and goes on to the next.
 fn put_due(
     p: Flow,
+    next: usize,
     b: u8,
     e: Check,
     d: Due,
@@ -160,11 +139,10 @@ fn put_due(
     ends: &mut [u32],
     rows: &mut [u32],
 ) -> Flow
-    requires { ⌜ p .taken < 18446744073709551615 ⌝ }
     requires { ⌜ p .text + (d .blanks + one (d .byte)) ≤ length (now text) ⌝ }
     requires { ⌜ p .ends + one (d .end) ≤ length (now ends) ⌝ }
     requires { ⌜ p .rows + one (d .row) ≤ length (now rows) ⌝ }
-    ensures { λ r. ⌜ r ≡ record { state = onward e; taken = p .taken + 1; text = p .text + (d .blanks + one (d .byte)); ends = p .ends + one (d .end); rows = p .rows + one (d .row); short = 0 } ⌝ }
+    ensures { λ r. ⌜ r ≡ record { state = onward e; taken = next; text = p .text + (d .blanks + one (d .byte)); ends = p .ends + one (d .end); rows = p .rows + one (d .row); short = 0 } ⌝ }
     ensures { λ r. ⌜ now (text .exit) ≡ sets (now (text .entry)) (p .text) (replicate (d .blanks) 0x20 ++ when (d .byte) b) ⌝ }
     ensures { λ r. ⌜ now (ends .exit) ≡ sets (now (ends .entry)) (p .ends) (when (d .end) (e .counts .text)) ⌝ }
     ensures { λ r. ⌜ now (rows .exit) ≡ sets (now (rows .entry)) (p .rows) (when (d .row) (e .counts .fields .0)) ⌝ }
@@ -172,7 +150,7 @@ fn put_due(
     let t = put_text(text, p.text, d.blanks as usize, d.byte, b);
     let k = put_entry(ends, p.ends, d.end, e.counts.text);
     let o = put_entry(rows, p.rows, d.row, e.counts.fields.0);
-    behind(p, e, t, k, o)
+    behind(e, next, t, k, o)
 }
 
 // Writes blanks and then a byte, if it comes out, and says where the text ends.

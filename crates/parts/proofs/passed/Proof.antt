@@ -1,49 +1,115 @@
 -- `parts::passed` meets its contract.
-use mathlib.Core.Path.{_≡_, refl, sym, _∙_}
-use mathlib.Core.Bool.{true, false, true≢false}
-use borrow.Author.Tests.{not-true, not-false}
-use lib.ListN.{length}
-use Rattle.taking.specs.Walk.{insideBy}
-use Rattle.taking.proofs.Growing.{by-inside, grew-sizes}
+use Prim.Native.Nat.{_+_}
+use native.Mathlib.Omega.{arith}
+use Rattle.taking.proofs.Growing.{on-true, inside-by, put-size}
+use Rattle.room.specs.Room.{Ample, Passable}
+use Rattle.room.proofs.Counted.{passable}
+use Rattle.parts.proofs.Passing.{stayed, beyond-grew, part-grew, ample-to}
+use borrow.Author.Needs.{needs}
 use Rattle.parts.proofs.passed.Statement.{statement}
 use Rattle.parts.proofs.passed.Tie as tie
 
--- the test, by the lengths
-outside : (c : tie.Then1) → let a = c .before .before .before .before .before .before .args in insideBy (a .p) (length (a .piece .now)) (length (a .text .now)) (length (a .ends .now)) (length (a .rows .now)) ≡ false
-outside c = sym (c .before .is-inside .ensures) ∙ not-true (c .before .is-inside .result) (c .if1 .taken)
+-- from a place of the code back to one before it
+abbrev start : tie.After-part → tie.Start
+start k = k .before .before .before .before .before
 
-inside : (c : tie.Else1) → let a = c .before .before .before .before .before .before .args in insideBy (a .p) (length (a .piece .now)) (length (a .text .now)) (length (a .ends .now)) (length (a .rows .now)) ≡ true
-inside c = sym (c .before .is-inside .ensures) ∙ not-false (c .before .is-inside .result) (c .if1 .left)
+abbrev more : tie.After-is-shown → tie.Else1
+more k = k .before .before .before
 
-is-inside-requires : tie.Need-is-inside-requires
-is-inside-requires c κs = tt
+-- so many bytes can be taken at once
+able : (c : tie.Else1) → let a = start (c .before) .args in Passable (a .p) (c .before .part .result) (a .piece .now) (a .text .now) (a .ends .now) (a .rows .now)
+able c = passable _ (c .before .part .ensures) (omega (arith, c .if1 .left))
+
+-- with room for what they put out
+ample : (c : tie.Else3) → let k = more (c .before .before .before) .before in let a = start k .args in Ample (a .p) (k .part .result) (a .piece .now) (a .text .now) (a .ends .now) (a .rows .now)
+ample c = able (more (c .before .before .before)) .ample (c .if3 .left)
+
+part-requires : tie.Need-part-requires
+part-requires c κs = tt
 
 returns : tie.Need-returns
-returns c = (λ e. absurd (true≢false (sym e ∙ outside c)), λ e. record { flow = refl; text-stays = refl; ends-stay = refl; rows-stay = refl })
+returns c = stayed _ _ _ _ _
 
-pass-on-requires : tie.Need-pass-on-requires
-pass-on-requires c κs = by-inside _ _ _ _ _ (inside (c .before .before .before))
+add-to : tie.Need-add-to
+add-to c = omega (arith, able c .taken-room, start (c .before) .good)
 
-same-length : tie.Need-same-length
-same-length c = grew-sizes (c .before .before .before .before .before .before .pass-on .ensures) .0
+sub-feed : tie.Need-sub-feed
+sub-feed c = omega arith
 
-same-length-2 : tie.Need-same-length-2
-same-length-2 c = grew-sizes (c .before .before .before .before .before .before .pass-on .ensures) .1
+part-feed-start : tie.Need-part-feed-start
+part-feed-start c = omega (arith, able c .inside .taken-in)
 
-same-length-3 : tie.Need-same-length-3
-same-length-3 c = grew-sizes (c .before .before .before .before .before .before .pass-on .ensures) .2
+part-feed-end : tie.Need-part-feed-end
+part-feed-end c = omega (arith, able c .taken-room)
+
+feed-requires : tie.Need-feed-requires
+feed-requires c κs = tt
+
+is-shown-requires : tie.Need-is-shown-requires
+is-shown-requires c κs = tt
 
 returns-2 : tie.Need-returns-2
-returns-2 c = (λ e. c .before .before .before .before .before .before .pass-on .ensures, λ e. absurd (true≢false (sym (inside (c .before .before .before .before .before .before .before .before .before .before)) ∙ e)))
+returns-2 c = stayed _ _ _ _ _
+
+behind-requires : tie.Need-behind-requires
+behind-requires c κs = tt
+
+returns-3 : tie.Need-returns-3
+returns-3 c =
+    let k = c .before .before .before .before in
+    let a = able (more k) in
+    let n = more k .before .part .result in
+    let p = start (more k .before) .args .p in
+    on-true (inside-by _ _ _ _ _ (a .inside))
+    (beyond-grew (a .inside) (a .plain) (p .taken + n) (omega arith) (a .taken-room) (c .before .if3 .taken) (k .before .feed .ensures .result) (rw (← (k .is-shown .ensures)) (c .before .before .before .if2 .left)) (c .behind .ensures))
+
+returns-4 : tie.Need-returns-4
+returns-4 c = stayed _ _ _ _ _
+
+put-part-requires : tie.Need-put-part-requires
+put-part-requires c κs = ample-to (ample (c .before .before .before .before .before))
+
+behind-requires-2 : tie.Need-behind-requires-2
+behind-requires-2 c κs = tt
+
+same-length : tie.Need-same-length
+same-length c = put-size (c .before .before .before .before .before .before .before .put-part .ensures .0)
+
+same-length-2 : tie.Need-same-length-2
+same-length-2 c = put-size (c .before .before .before .before .before .before .before .put-part .ensures .1 .0)
+
+same-length-3 : tie.Need-same-length-3
+same-length-3 c = put-size (c .before .before .before .before .before .before .before .put-part .ensures .1 .1)
+
+returns-5 : tie.Need-returns-5
+returns-5 c =
+    let e = c .before .before .before .before .before .before .before .before .before .before .before in
+    let x = e .before .before in
+    let k = x .before .before .before in
+    let a = able (more k) in
+    let w = c .before .before .before .before .before .before .before .put-part .ensures in
+    on-true (inside-by _ _ _ _ _ (a .inside))
+    (part-grew (ample x) (a .plain) (k .before .feed .ensures .result) (rw (← (k .is-shown .ensures)) (x .before .before .if2 .left)) (e .if4 .left) (c .behind2 .ensures) (w .0) (w .1 .0) (w .1 .1))
 
 pub passed-spec : {M : Type 1} → statement M
 passed-spec =
     tie.close
     (tie.spec
-    is-inside-requires
+    part-requires
     returns
-    pass-on-requires
+    add-to
+    sub-feed
+    part-feed-start
+    part-feed-end
+    feed-requires
+    is-shown-requires
+    returns-2
+    behind-requires
+    returns-3
+    returns-4
+    put-part-requires
+    behind-requires-2
     same-length
     same-length-2
     same-length-3
-    returns-2)
+    returns-5)

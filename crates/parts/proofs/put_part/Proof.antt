@@ -9,7 +9,7 @@ use Rattle.parts.proofs.put_part.Tie as tie
 
 -- from a place of the code back to one before it
 abbrev start : tie.After-walked → tie.Start
-start k = k .before .before .before .before .before .before .before .before .before .before .before .before
+start k = k .before .before .before .before .before .before .before .before .before .before .before
 
 cast-walked : tie.Need-cast-walked
 cast-walked c = search needs
@@ -27,13 +27,13 @@ walked-requires : tie.Need-walked-requires
 walked-requires c κs = tt
 
 add-raise : tie.Need-add-raise
-add-raise c = omega (arith, start (c .before .before .before .before .before .before .before .before) .pre .1 .small)
+add-raise c = omega (arith, start (c .before .before .before .before .before .before .before .before) .pre .1 .roomy .small)
 
 cast-raise : tie.Need-cast-raise
-cast-raise c = let m = start (c .before .before .before .before .before .before .before .before .before) .pre .1 in omega (arith, m .text-count, m .small)
+cast-raise c = let m = start (c .before .before .before .before .before .before .before .before .before) .pre .1 in omega (arith, m .roomy .text-count, m .roomy .small)
 
 sub-raise : tie.Need-sub-raise
-sub-raise c = start (c .before .before .before .before .before .before .before .before .before) .pre .1 .text-count
+sub-raise c = start (c .before .before .before .before .before .before .before .before .before) .pre .1 .roomy .text-count
 
 raise-requires : tie.Need-raise-requires
 raise-requires c κs =
@@ -43,10 +43,10 @@ raise-requires c κs =
     ends-raisable (s .pre .0) (s .pre .1) _ (w .0 false) (w .1 false (enough (s .pre .0) (s .pre .1) _))
 
 cast-raise-2 : tie.Need-cast-raise-2
-cast-raise-2 c = let m = start (c .before .before .before .before .before .before .before .before .before .before .before .before .before .before) .pre .1 in omega (arith, m .field-count, m .few)
+cast-raise-2 c = let m = start (c .before .before .before .before .before .before .before .before .before .before .before .before .before .before) .pre .1 in omega (arith, m .roomy .field-count, m .roomy .few)
 
 sub-raise-2 : tie.Need-sub-raise-2
-sub-raise-2 c = start (c .before .before .before .before .before .before .before .before .before .before .before .before .before .before .before) .pre .1 .field-count
+sub-raise-2 c = start (c .before .before .before .before .before .before .before .before .before .before .before .before .before .before .before) .pre .1 .roomy .field-count
 
 raise-requires-2 : tie.Need-raise-requires-2
 raise-requires-2 c κs =

@@ -35,11 +35,14 @@ smaller-requires c κs = tt
 put-run-requires : tie.Need-put-run-requires
 put-run-requires c κs = tt
 
-cast-t14 : tie.Need-cast-t14
-cast-t14 c = search needs
+cast-halted : tie.Need-cast-halted
+cast-halted c = search needs
 
-add-t15 : tie.Need-add-t15
-add-t15 c = search needs
+add-halted : tie.Need-add-halted
+add-halted c = search needs
+
+halted-requires : tie.Need-halted-requires
+halted-requires c κs = tt
 
 same-length : tie.Need-same-length
 same-length c = search needs
@@ -50,18 +53,19 @@ returns c =
     let a = start r .args in
     let n = count (r .before .before) in
     let e = ends r ∙ ap (λ (k : ℕ). a .p .text + k) n in (
-      λ i. record {
-        state = record { check = a .p .state .check; early = a .p .state .early + n i; closed = a .p .state .closed };
-        taken = a .p .taken;
-        text = e i;
-        ends = a .p .ends;
-        rows = a .p .rows;
-        short = a .short;
-      },
+      c .halted .ensures
+          ∙ λ i. record {
+            state = record { check = a .p .state .check; early = a .p .state .early + n i; closed = a .p .state .closed };
+            taken = a .p .taken;
+            text = e i;
+            ends = a .p .ends;
+            rows = a .p .rows;
+            short = a .short;
+          },
       now-is r ∙ ap (λ (k : ℕ). sets (a .text .now) (a .p .text) (replicate k 0x20)) n,
     )
 
 pub stick-spec : {M : Type 1} → statement M
 stick-spec =
     tie.close
-    (tie.spec sub-smaller smaller-requires put-run-requires cast-t14 add-t15 same-length returns)
+    (tie.spec sub-smaller smaller-requires put-run-requires cast-halted add-halted halted-requires same-length returns)

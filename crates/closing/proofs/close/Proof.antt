@@ -1,11 +1,11 @@
--- `stream::close` meets its contract, case by case.
+-- `closing::close` meets its contract, case by case.
 use mathlib.Core.Path.{_≡_, sym, _∙_}
 use mathlib.Core.Bool.{false}
 use Rattle.output.specs.Stream.{isOver}
 use Rattle.output.proofs.Closing.{close-over, close-none, close-no-ends, close-no-rows, close-full}
 use borrow.Author.Needs.{needs}
-use Rattle.stream.proofs.close.Statement.{statement}
-use Rattle.stream.proofs.close.Tie as tie
+use Rattle.closing.proofs.close.Statement.{statement}
+use Rattle.closing.proofs.close.Tie as tie
 
 -- not over, where the check is asked
 going : (k : tie.After-ask) → isOver (k .before .before .before .before .before .args .s) ≡ false

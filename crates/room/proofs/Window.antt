@@ -22,9 +22,11 @@ use Rattle.fill.specs.Fill.{textBy, endsBy, rowsBy, textLeft, endsLeft, rowsLef
 use Rattle.fill.proofs.Left.{text-none, text-byte, ends-none, ends-byte, rows-none, rows-byte}
 use Rattle.fill.proofs.Part.{ends-any, rows-any}
 use Rattle.output.specs.Out.{Out, nothing as silence, then}
-use Rattle.output.specs.Stream.{shown, putsText, endsField, byteLeft, due, Room, fits, left, Called, onward, taking, streamed}
+use Rattle.output.specs.Stream.{shown, putsText, endsField, byteLeft, due, Room, left, Called, onward, taking, streamed}
 use Rattle.taking.specs.Walk.{adding}
-use Rattle.parts.specs.Parts.{dialectOf, putOut}
+use Rattle.room.specs.Room.{dialectOf, putOut}
+use Rattle.taking.proofs.Growing.{adds-none}
+use Rattle.output.proofs.Bytewise.{shown-open, parts-fit, streamed-taken}
 use Rattle.output.proofs.Step.{clear, due-quiet, due-text, due-field, due-record}
 use Rattle.output.proofs.Calls.{then-then}
 use Rattle.output.proofs.Meaning.{shown-first}
@@ -183,10 +185,6 @@ fits-first (b ∷ g) c s l =
     fits-before c b (clear c (shown-first (b ∷ g) c s) .refusal) (clear (fed c b) e .refusal) (fits-first g (fed c b) s′ (rw (fed-cons c b g) at l))
 
 -- room
-fits-true : (o : Out) (r : Room) → Holds o r → fits o r ≡ true
-unfolding fits
-fits-true o r h = rw (le-leb (length (o .text)) (r .text) (h .text), le-leb (length (o .ends)) (r .ends) (h .ends), le-leb (length (o .rows)) (r .rows) (h .rows))
-
 module _ (o p : Out) (r : Room) where
   lengths-then :
       (length (then o p .text) ≡ length (o .text) + length (p .text)) × (length (then o p .ends) ≡ length (o .ends) + length (p .ends))
@@ -226,17 +224,13 @@ left-none r =
 taken-byte :
     (c : Check) (b : ℕ) (f : Bytes) (r : Room) → shown c ≡ false → shown (fed c b) ≡ false → Holds (due 0 c b (fed c b)) r
     → streamed (onward c) (b ∷ f) r ≡ taking (due 0 c b (fed c b)) (streamed (onward (fed c b)) f (left (due 0 c b (fed c b)) r))
-unfolding streamed
-taken-byte c b f r s s′ h = rw (s, s′, fits-true (due 0 c b (fed c b)) r h)
+taken-byte c b f r s s′ h = streamed-taken (onward c) r b f (shown-open c s) s′ (parts-fit (due 0 c b (fed c b)) r (h .text) (h .ends) (h .rows))
 
 adds : (k : ℕ) (o p : Out) (x : Called) → taking o (adding k p x) ≡ adding (suc k) (then o p) x
 adds k o p x =
     let e = then-then o p (x .out) in
     let z : suc (k + x .taken) ≡ suc k + x .taken = omega arith in
     λ i. record { taken = z i; out = sym e i; short = x .short; state = x .state }
-
-adds-none : (x : Called) → x ≡ adding 0 silence x
-adds-none x = let z : x .taken ≡ 0 + x .taken = omega arith in λ i. record { taken = z i; out = x .out; short = x .short; state = x .state }
 
 -- Bytes that show no refusal and bring no content over the limit, with room for what they put out, are taken, whatever comes behind them.
 pub windowed :
