@@ -9,10 +9,10 @@ use Rattle.tables.proofs.Searching.{one-found}
 use Rattle.tables.proofs.Showing.{one-place}
 use Rattle.writer.specs.Write.{WriteOutcome}
 use Rattle.writer.proofs.Calls.{one-numbers}
-use Rattle.siprovault.specs.declared.SvWritten.{SvWritten}
-use Rattle.siprovault.specs.declared.SvColumn.{SvColumn}
-use Rattle.siprovault.specs.declared.SvPart.{SvPart}
-use Rattle.siprovault.specs.Face.{svWrittenNumbers, svColumnNumbers, svPartNumbers, writtenFrom, columnFrom, partFrom}
+use Rattle.face.specs.declared.SvWritten.{SvWritten}
+use Rattle.face.specs.declared.SvColumn.{SvColumn}
+use Rattle.face.specs.declared.SvPart.{SvPart}
+use Rattle.face.specs.Face.{svWrittenNumbers, svColumnNumbers, svPartNumbers, writtenFrom, columnFrom, partFrom}
 
 module _ {text : Bytes} {ends rows : List ℕ} where
   pub one-write :

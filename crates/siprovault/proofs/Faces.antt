@@ -10,10 +10,10 @@ use Rattle.format.specs.Table.{Bytes}
 use Rattle.tables.specs.Search.{Searched}
 use Rattle.tables.specs.Shown.{Located}
 use Rattle.writer.specs.Write.{WriteOutcome}
-use Rattle.siprovault.specs.declared.SvWritten.{SvWritten}
-use Rattle.siprovault.specs.declared.SvColumn.{SvColumn}
-use Rattle.siprovault.specs.declared.SvPart.{SvPart}
-use Rattle.siprovault.specs.Face.{svWrittenNumbers, svColumnNumbers, svPartNumbers, writtenFrom, columnFrom, partFrom}
+use Rattle.face.specs.declared.SvWritten.{SvWritten}
+use Rattle.face.specs.declared.SvColumn.{SvColumn}
+use Rattle.face.specs.declared.SvPart.{SvPart}
+use Rattle.face.specs.Face.{svWrittenNumbers, svColumnNumbers, svPartNumbers, writtenFrom, columnFrom, partFrom}
 
 pub written-numbers : {r : SvWritten} (a : Written) → r ≡ writtenFrom (writerNumbers a) → svWrittenNumbers r ≡ writerNumbers a
 written-numbers (Whole n) e = ap svWrittenNumbers e

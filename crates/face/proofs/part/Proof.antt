@@ -1,11 +1,11 @@
--- `siprovault::part` meets its contract.
+-- `face::part` meets its contract.
 use mathlib.Core.Path.{sym, ap}
 use Rattle.format.specs.declared.Part.{Part}
 use Rattle.format.specs.Answer.{partNumbers}
-use Rattle.siprovault.specs.Face.{partFrom}
+use Rattle.face.specs.Face.{partFrom}
 use borrow.Author.Needs.{needs}
-use Rattle.siprovault.proofs.part.Statement.{statement}
-use Rattle.siprovault.proofs.part.Tie as tie
+use Rattle.face.proofs.part.Statement.{statement}
+use Rattle.face.proofs.part.Tie as tie
 
 enum-known-answer : tie.Need-enum-known-answer
 enum-known-answer c = search needs

@@ -2,9 +2,9 @@
 use Prim.Native.Nat.{ℕ}
 use mathlib.Core.List.{List, [], _∷_}
 use lib.ListN.{getD}
-use Rattle.siprovault.specs.declared.SvWritten.{SvWritten}
-use Rattle.siprovault.specs.declared.SvColumn.{SvColumn}
-use Rattle.siprovault.specs.declared.SvPart.{SvPart}
+use Rattle.face.specs.declared.SvWritten.{SvWritten}
+use Rattle.face.specs.declared.SvColumn.{SvColumn}
+use Rattle.face.specs.declared.SvPart.{SvPart}
 
 abbrev pub svWrittenNumbers : SvWritten → List ℕ
 svWrittenNumbers r = r .refusal ∷ r .line .0 ∷ r .column .0 ∷ r .byte .0 ∷ r .length ∷ []

@@ -1,11 +1,11 @@
--- `siprovault::written` meets its contract.
+-- `face::written` meets its contract.
 use mathlib.Core.Path.{sym, ap, _∙_}
 use Rattle.format.specs.declared.Written.{Written}
 use Rattle.format.specs.Answer.{writerNumbers}
-use Rattle.siprovault.specs.Face.{writtenFrom}
+use Rattle.face.specs.Face.{writtenFrom}
 use borrow.Author.Needs.{needs}
-use Rattle.siprovault.proofs.written.Statement.{statement}
-use Rattle.siprovault.proofs.written.Tie as tie
+use Rattle.face.proofs.written.Statement.{statement}
+use Rattle.face.proofs.written.Tie as tie
 
 enum-known-answer : tie.Need-enum-known-answer
 enum-known-answer c = search needs

@@ -1,11 +1,11 @@
--- `siprovault::found` meets its contract.
+-- `face::found` meets its contract.
 use mathlib.Core.Path.{sym, ap}
 use Rattle.format.specs.declared.Found.{Found}
 use Rattle.format.specs.Answer.{searchNumbers}
-use Rattle.siprovault.specs.Face.{columnFrom}
+use Rattle.face.specs.Face.{columnFrom}
 use borrow.Author.Needs.{needs}
-use Rattle.siprovault.proofs.found.Statement.{statement}
-use Rattle.siprovault.proofs.found.Tie as tie
+use Rattle.face.proofs.found.Statement.{statement}
+use Rattle.face.proofs.found.Tie as tie
 
 enum-known-answer : tie.Need-enum-known-answer
 enum-known-answer c = search needs
