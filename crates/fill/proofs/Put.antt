@@ -5,7 +5,7 @@ use mathlib.Core.Path.{_≡_, refl}
 use mathlib.Core.Bool.{Bool, true, false, cond, not, _&&_, _||_}
 use lib.Dec.{leb, ltb}
 use borrow.Author.Tests.{leb-true, leb-false, le-leb, lt-leb, ltb-true, ltb-false, lt-ltb, le-ltb}
-use Rattle.runs.proofs.Runs.{and-both}
+use Rattle.format.proofs.Tests.{and-both}
 use Rattle.format.specs.Memory.{largest32}
 use Rattle.fill.specs.declared.Head.{Head}
 use Rattle.fill.specs.declared.Field.{Field}

@@ -18,6 +18,7 @@ pub mod Numbers
 pub mod Places
 pub mod Rfc
 pub mod Tally
+pub mod Tests
 pub mod Trim
 pub mod Room
 pub mod Refusals

@@ -13,7 +13,8 @@ use Rattle.format.specs.Table.{Bytes}
 use Rattle.format.specs.Dialect.{lf, Dialect, strict, text, classOf}
 use Rattle.steps.specs.Steps.{quoted, put, go, stepOf}
 use Rattle.runs.specs.Runs.{run, isInner, pairs}
-use Rattle.runs.proofs.Runs.{run-le, run-first, pairs-le, pairs-first, and-both}
+use Rattle.format.proofs.Tests.{and-both}
+use Rattle.runs.proofs.Runs.{run-le, run-first, pairs-le, pairs-first}
 use Rattle.runs.proofs.Bytes.{inner-inside}
 use Rattle.fill.specs.declared.Head.{Head}
 use Rattle.fill.specs.Fill.{textLeft, endsLeft, rowsLeft}

@@ -11,7 +11,8 @@ use Rattle.format.specs.House.{contentLimit, fileLimit}
 use Rattle.places.specs.Counters.{counterLimit}
 use Rattle.taking.specs.declared.Flow.{Flow}
 use Rattle.taking.specs.Walk.{insideBy}
-use Rattle.taking.proofs.Growing.{neither, by-inside, inside-parts}
+use Rattle.format.proofs.Tests.{neither}
+use Rattle.taking.proofs.Growing.{by-inside, inside-parts}
 use Rattle.room.specs.Room.{counted, fieldsCounted, roomFor, partOf, Roomy, Passable}
 use mir.Syntax.{w32, w64}
 use mir.Val.{Fits}

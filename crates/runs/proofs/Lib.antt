@@ -1,4 +1,3 @@
 pub mod Bytes
 pub mod Lines
 pub mod Runs
-pub mod Words

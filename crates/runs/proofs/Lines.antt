@@ -3,7 +3,7 @@ use Prim.Native.Nat.{ℕ, suc, _+_, _-_, _≤_, _<_}
 use native.Mathlib.Numerals.{add-one}
 use native.Mathlib.Omega.{arith}
 use mathlib.Core.Path.{_≡_, refl, sym, ap, _∙_}
-use mathlib.Core.Bool.{false}
+use mathlib.Core.Bool.{false, cond}
 use mathlib.Core.List.{_∷_, _++_}
 use lib.Dec.{eqb}
 use lib.ListN.{length, getD, take, drop, drop-of-length-le, length-drop, take-append-drop}
@@ -12,9 +12,8 @@ use borrow.Author.Tests.{ne-eqb}
 use Rattle.format.specs.Table.{Bytes}
 use Rattle.format.specs.Place.{lineFeeds, sinceLf}
 use Rattle.format.proofs.Places.{lineFeeds-append, feeds-nil, feeds-byte, feeds-lf, sinceLf-append, since-none, since-on}
-use Rattle.runs.specs.Words.{bit}
 
-pub feeds-more : (s : Bytes) (i : ℕ) → i < length s → lineFeeds (drop i s) ≡ bit (eqb (getD s i 0) 0x0A) + lineFeeds (drop (i + 1) s)
+pub feeds-more : (s : Bytes) (i : ℕ) → i < length s → lineFeeds (drop i s) ≡ cond (eqb (getD s i 0) 0x0A) 1 0 + lineFeeds (drop (i + 1) s)
 feeds-more s i h = rw (add-one, drop-cons s i 0, feeds-byte (getD s i 0) (drop (suc i) s))
 
 pub feeds-none : (s : Bytes) (i : ℕ) → length s ≤ i → lineFeeds (drop i s) ≡ 0

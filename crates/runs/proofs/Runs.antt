@@ -10,6 +10,7 @@ use borrow.Author.Tests.{ne-eqb, eqb-true, leb-true, leb-false, le-leb}
 use lib.Dec.{eqb, leb}
 use lib.Seq.{drop-cons, drop-drop, getD-drop}
 use Rattle.format.specs.Table.{Bytes}
+use Rattle.format.proofs.Tests.{and-both}
 use Rattle.runs.specs.Runs.{run, pairs, isBreak}
 
 module _ (p : ℕ → Bool) where
@@ -224,11 +225,6 @@ module _ (s : Bytes) (all n i : ℕ) (h : Paired s all n i) where
 
 pub paired-begins : (s : Bytes) (i : ℕ) → i ≤ length s → Paired s (pairs (drop i s)) 0 i
 paired-begins s i h = (h, omega arith, omega arith)
-
--- both parts of a test
-pub and-both : (x y : Bool) → (x && y) ≡ true → (x ≡ true) × (y ≡ true)
-and-both true y e = (refl, e)
-and-both false y e = absurd (false≢true e)
 
 -- a front that goes on
 pub run-add : (p : ℕ → Bool) (s : Bytes) (a b : ℕ) → a ≤ run p s → b ≤ run p (drop a s) → a + b ≤ run p s

@@ -8,7 +8,7 @@ use borrow.Author.Tests.{eqb-true, ne-eqb}
 use Rattle.format.specs.declared.Place.{Place}
 use Rattle.format.specs.Table.{Bytes}
 use Rattle.format.specs.Dialect.{lf, names}
-use Rattle.runs.proofs.Runs.{and-both}
+use Rattle.format.proofs.Tests.{and-both}
 use Rattle.steps.specs.Steps.{Form, start}
 use Rattle.steps.specs.Numbers.{formNumber}
 use Rattle.state.specs.declared.Check.{Check}

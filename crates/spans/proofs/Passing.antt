@@ -11,7 +11,8 @@ use Rattle.format.specs.Dialect.{dialect}
 use Rattle.format.specs.House.{contentLimit}
 use Rattle.steps.specs.Steps.{start}
 use Rattle.runs.specs.Runs.{run, isPlain, isBreak}
-use Rattle.runs.proofs.Runs.{and-both, run-join, run-within, BreakAt, break-at}
+use Rattle.format.proofs.Tests.{and-both}
+use Rattle.runs.proofs.Runs.{run-join, run-within, BreakAt, break-at}
 use Rattle.format.specs.Memory.{largest32}
 use Rattle.state.specs.declared.Check.{Check}
 use Rattle.spans.specs.declared.Inside.{Inside}

@@ -11,9 +11,9 @@ use Rattle.format.specs.Table.{Bytes}
 use Rattle.steps.specs.Steps.{quoted}
 use Rattle.steps.specs.Numbers.{formNumber}
 use Rattle.runs.specs.Runs.{run, isInner, pairs}
-use Rattle.runs.specs.Words.{word, Marks}
+use Rattle.words.specs.Words.{word, Marks}
 use Rattle.runs.proofs.Runs.{run-add, run-within, pairs-le}
-use Rattle.runs.proofs.Words.{Marked, marked-part, marked-none, marked-some}
+use Rattle.words.proofs.Words.{Marked, marked-part, marked-none, marked-some}
 use Rattle.state.specs.declared.Check.{Check}
 use Rattle.places.specs.Counters.{spot}
 use Rattle.state.specs.Check.{fedAll, jumped}

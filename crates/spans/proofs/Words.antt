@@ -10,8 +10,8 @@ use Rattle.format.specs.Table.{Bytes}
 use Rattle.format.specs.Dialect.{dialect}
 use Rattle.runs.specs.Runs.{isPlain}
 use Rattle.format.specs.Memory.{largest32}
-use Rattle.runs.specs.Words.{Stops}
-use Rattle.runs.proofs.Words.{Marked, marked-on, marked-none, marked-some}
+use Rattle.words.specs.Words.{Stops}
+use Rattle.words.proofs.Words.{Marked, marked-on, marked-none, marked-some}
 use Rattle.state.specs.declared.Check.{Check}
 use Rattle.spans.specs.declared.Walk.{Walk}
 use Rattle.spans.specs.Walk.{placedAt, Sized, Walking}

@@ -7,7 +7,7 @@ ghost use mathlib.Core.Bool.{true};
 ghost use mathlib.Core.Path.{_≡_};
 ghost use Rattle.format.specs.Dialect.{dialect};
 ghost use Rattle.format.specs.Memory.{largest32};
-ghost use Rattle.runs.specs.Words.{Marks, Stops};
+ghost use Rattle.words.specs.Words.{Marks, Stops};
 ghost use Rattle.spans.specs.Walk.{BetweenFrom, Between, runOn, Further, lastLine, Level, placedAt, fieldOn, rowOn, Closed, endAt, endedBy, Fits, Sized, Walking, Goes, Leading, loneEnds};
 ghost use lib.ListN.{length, getD};
 ghost use Rattle.runs.specs.Runs.{isInner};
@@ -48,7 +48,7 @@ pub fn between_quotes(s: &[u8], at: usize) -> Inside
             tail: 0,
         };
     }
-    let t = runs::inner_table();
+    let t = words::inner_table();
     inside_from(&t, s, at)
 }
 
@@ -63,8 +63,8 @@ pub fn rows(check: Check, s: &[u8], at: usize) -> Walk
     if !is_level(check, s) {
         return start_of(check.field.number.0, at);
     }
-    let t = runs::stop_table(check.delimiter, check.leniencies);
-    let inner = runs::inner_table();
+    let t = words::stop_table(check.delimiter, check.leniencies);
+    let inner = words::inner_table();
     let alone = is_alone(check);
     walk_on(check, alone, &t, &inner, s, at)
 }
@@ -91,37 +91,14 @@ fn start_of(number: u32, at: usize) -> Walk
 fn is_level(check: Check, s: &[u8]) -> bool
     ensures { λ r. ⌜ (r ≡ true → Level check (now (s .entry))) ⌝ }
 {
-    if format::LARGEST_32 < s.len() {
-        return false;
-    }
-    if check.refusal != 0 {
-        return false;
-    }
-    if check.form != steps::START {
-        return false;
-    }
-    if check.field.content != 0 {
-        return false;
-    }
-    if check.field.held != 0 {
-        return false;
-    }
-    if check.delimiter == 0x0D {
-        return false;
-    }
-    if check.delimiter == 0x0A {
-        return false;
-    }
-    if check.delimiter == 0x22 {
-        return false;
-    }
-    if places::COUNTER_LIMIT < check.here.line.0 {
-        return false;
-    }
-    if places::COUNTER_LIMIT < check.counts.records {
-        return false;
-    }
-    check.counts.width <= places::COUNTER_LIMIT
+    let at_start = (check.refusal == 0) & (check.form == steps::START);
+    let empty = (check.field.content == 0) & (check.field.held == 0);
+    let d = check.delimiter;
+    let apart = (d != 0x0D) & (d != 0x0A) & (d != 0x22);
+    let most = places::COUNTER_LIMIT;
+    let line = check.here.line.0 <= most;
+    let counting = line & (check.counts.records <= most) & (check.counts.width <= most);
+    (s.len() <= format::LARGEST_32) & at_start & empty & apart & counting
 }
 
 // Whether an LF alone ends a record, and one did before, so that the walk has nothing to note of it.
@@ -150,8 +127,8 @@ fn walk_on(
     let mut x = start_of(check.field.number.0, at);
     while x.at < s.len() {
         let i = x.at;
-        let e = runs::block_end(s, i);
-        let mut w = runs::marks_64(t, s, i);
+        let e = words::block_end(s, i);
+        let mut w = words::marks_64(t, s, i);
         while w != 0 {
             let k = u64::trailing_zeros(w);
             let y = placed_at(x, x.at + (k as usize));
@@ -159,9 +136,9 @@ fn walk_on(
             if x.at == y.at {
                 return x;
             }
-            w = runs::shifted(w >> k, x.at - y.at);
+            w = words::shifted(w >> k, x.at - y.at);
         }
-        x = placed_at(x, runs::later(x.at, e));
+        x = placed_at(x, words::later(x.at, e));
     }
     x
 }
@@ -319,7 +296,7 @@ fn inside_from(t: &[bool; 256], s: &[u8], at: usize) -> Inside
     while x.end < s.len() {
         let k = runs::inner_blocks(s, x.end);
         let y = run_on(x, k);
-        let w = runs::marks_16(t, s, y.end);
+        let w = words::marks_16(t, s, y.end);
         if w == 0 {
             return run_on(y, s.len() - y.end);
         }

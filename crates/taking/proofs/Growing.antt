@@ -3,7 +3,7 @@ use Prim.Native.Nat.{ℕ, suc, _+_, _-_, _≤_, _<_, min}
 use native.Mathlib.Numerals.{add-one}
 use native.Mathlib.Omega.{arith}
 use mathlib.Core.Path.{_≡_, refl, sym, ap, _∙_}
-use mathlib.Core.Bool.{Bool, true, false, cond, _&&_, _||_, true≢false}
+use mathlib.Core.Bool.{Bool, true, false, cond, _&&_, _||_}
 use lib.Dec.{leb}
 use mathlib.Core.List.{List, [], _∷_, _++_, append-nil}
 use lib.ListN.{length, drop, getD, replicate, length-append, length-replicate, drop-of-length-le}
@@ -11,6 +11,7 @@ use lib.Seq.{sets, drop-cons, length-sets, take-append-seam}
 use borrow.Author.Tests.{leb-true, leb-false, le-leb}
 use Rattle.format.specs.Table.{Bytes}
 use Rattle.format.proofs.Filling.{sets-append}
+use Rattle.format.proofs.Tests.{and-both}
 use Rattle.state.specs.declared.Check.{Check}
 use Rattle.state.specs.Check.{fed}
 use Rattle.output.specs.Out.{Out, nothing, then}
@@ -20,14 +21,6 @@ use Rattle.output.specs.declared.Due.{Due}
 use Rattle.output.proofs.Bytewise.{due-is, short-is, short-fits, short-not, fits-parts, streamed-none, streamed-over, streamed-shown, streamed-taken, streamed-stuck}
 use Rattle.taking.specs.declared.Flow.{Flow}
 use Rattle.taking.specs.Walk.{roomAt, restOf, stopAt, adding, Inside, insideBy, Put, Grew, Took, one}
-
--- a test that holds, and one of which neither half does
-pub on-true : {A B : Type 0} {x : Bool} → x ≡ true → A → (x ≡ true → A) × (x ≡ false → B)
-on-true e a = (λ i. a, λ i. absurd (true≢false (sym e ∙ i)))
-
-pub neither : (x y : Bool) → (x || y) ≡ false → (x ≡ false) × (y ≡ false)
-neither true y h = absurd (true≢false h)
-neither false y h = (refl, h)
 
 -- a buffer
 module _ {A : Type 0} where
@@ -362,11 +355,6 @@ inside-parts p a b c d h =
     let y = and-both (leb (p .taken) a && leb (p .text) b) (leb (p .ends) c) (x .0) in
     let z = and-both (leb (p .taken) a) (leb (p .text) b) (y .0) in
     (leb-true (p .taken) a (z .0), leb-true (p .text) b (z .1), leb-true (p .ends) c (y .1), leb-true (p .rows) d (x .1))
-  where
-    and-both : (x y : Bool) → (x && y) ≡ true → (x ≡ true) × (y ≡ true)
-    and-both true true h = (refl, refl)
-    and-both true false h = absurd (true≢false (sym h))
-    and-both false y h = absurd (true≢false (sym h))
 
 module _ (p : Flow) (piece text : Bytes) (ends rows : List ℕ) where
   pub by-inside : insideBy p (length piece) (length text) (length ends) (length rows) ≡ true → Inside p piece text ends rows

@@ -11,9 +11,9 @@ use Rattle.format.specs.Dialect.{Dialect}
 use Rattle.steps.specs.Steps.{start}
 use Rattle.steps.specs.Numbers.{formNumber}
 use Rattle.runs.specs.Runs.{run, isPlain}
-use Rattle.runs.specs.Words.{word, blockEnd, Stops}
+use Rattle.words.specs.Words.{word, blockEnd, Stops}
 use Rattle.runs.proofs.Runs.{run-join, run-within}
-use Rattle.runs.proofs.Words.{Marked, marked-on, marked-none, marked-some, block}
+use Rattle.words.proofs.Words.{Marked, marked-on, marked-none, marked-some, block}
 use Rattle.fill.specs.declared.Head.{Head}
 use Rattle.fill.specs.Put.{behind}
 use Rattle.fill.specs.Walk.{Wrote}

@@ -10,7 +10,7 @@ ghost use lib.ListN.{length};
 ghost use Rattle.format.specs.Dialect.{Dialect, dialect};
 ghost use Rattle.steps.specs.Steps.{start};
 ghost use Rattle.steps.specs.Numbers.{formNumber};
-ghost use Rattle.runs.specs.Words.{Stops};
+ghost use Rattle.words.specs.Words.{Stops};
 ghost use Rattle.fill.specs.Walk.{Wrote};
 ghost use Rattle.stride.specs.Stride.{Ample};
 use fill::Head;
@@ -28,7 +28,7 @@ pub fn walked(
     ensures { λ r. ⌜ ((w : Bool) → Wrote w (dialect delimiter leniencies) (now (file .entry)) p (now (text .entry)) (now (ends .entry)) (now (rows .entry)) r (now (text .exit)) (now (ends .exit)) (now (rows .exit))) ⌝ }
     ensures { λ r. ⌜ ((w : Bool) → Ample w (dialect delimiter leniencies) (now (file .entry)) p (now (text .entry)) (now (ends .entry)) (now (rows .entry)) → length (now (file .entry)) ≤ r .at) ⌝ }
 {
-    let stops = runs::stop_table(delimiter, leniencies);
+    let stops = words::stop_table(delimiter, leniencies);
     let mut h = p;
     while h.at < file.len() {
         let q = stride::take_byte(file, delimiter, leniencies, h, text, ends, rows);
@@ -70,8 +70,8 @@ fn pass_fields(
     let mut h = p;
     let mut i = p.at;
     while i < file.len() {
-        let e = runs::block_end(file, i);
-        let mut w = runs::marks_64(stops, file, i);
+        let e = words::block_end(file, i);
+        let mut w = words::marks_64(stops, file, i);
         while w != 0 {
             let k = u64::trailing_zeros(w);
             let q = i + (k as usize);
@@ -81,10 +81,10 @@ fn pass_fields(
             if h.at != next {
                 return h;
             }
-            w = runs::shifted(w >> k, next - q);
+            w = words::shifted(w >> k, next - q);
             i = next;
         }
-        i = runs::later(i, e);
+        i = words::later(i, e);
     }
     h
 }

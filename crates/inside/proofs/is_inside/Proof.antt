@@ -1,6 +1,6 @@
 -- `inside::is_inside` meets its contract.
 use borrow.Author.Tests.{eqb-true, ltb-true}
-use Rattle.runs.proofs.Runs.{and-both}
+use Rattle.format.proofs.Tests.{and-both}
 use Rattle.inside.proofs.is_inside.Statement.{statement}
 use Rattle.inside.proofs.is_inside.Tie as tie
 

@@ -1,7 +1,8 @@
 -- `parts::passed` meets its contract.
 use Prim.Native.Nat.{_+_}
 use native.Mathlib.Omega.{arith}
-use Rattle.taking.proofs.Growing.{on-true, inside-by, put-size}
+use Rattle.format.proofs.Tests.{on-true}
+use Rattle.taking.proofs.Growing.{inside-by, put-size}
 use Rattle.room.specs.Room.{Ample, Passable}
 use Rattle.room.proofs.Counted.{passable}
 use Rattle.parts.proofs.Passing.{stayed, beyond-grew, part-grew, ample-to}

@@ -7,7 +7,7 @@ use borrow.Author.Count.{below-more}
 use borrow.Author.Tests.{eqb-true}
 use lib.Dec.{eqb}
 use lib.ListN.{getD}
-use Rattle.runs.proofs.Runs.{and-both}
+use Rattle.format.proofs.Tests.{and-both}
 use Rattle.runs.proofs.quote_block.Statement.{statement}
 use Rattle.runs.proofs.quote_block.Tie as tie
 

@@ -5,7 +5,7 @@ use native.Mathlib.Omega.{arith}
 use lib.Count.{trailingZeros}
 use lib.ListN.{length, getD, drop}
 use Rattle.runs.specs.Runs.{run, isInner}
-use Rattle.runs.specs.Words.{Marks}
+use Rattle.words.specs.Words.{Marks}
 use Rattle.spans.specs.declared.Inside.{Inside}
 use Rattle.spans.specs.Walk.{Between}
 use Rattle.spans.proofs.Quoted.{between-start, between-run, before-mark, without-mark, blocks-on, run-fits}

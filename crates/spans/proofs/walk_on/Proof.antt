@@ -5,8 +5,8 @@ use native.Mathlib.Omega.{arith}
 use lib.ListN.{length}
 use lib.Count.{trailingZeros}
 use Rattle.runs.specs.Runs.{isInner}
-use Rattle.runs.specs.Words.{Marks}
-use Rattle.runs.proofs.Words.{block}
+use Rattle.words.specs.Words.{Marks}
+use Rattle.words.proofs.Words.{block}
 use Rattle.spans.specs.declared.Walk.{Walk}
 use Rattle.spans.specs.Walk.{loneEnds, Walking}
 use Rattle.spans.proofs.Passing.{walking-start}

@@ -9,7 +9,8 @@ use Rattle.state.specs.Check.{fed}
 use Rattle.output.specs.Stream.{isOver, shown}
 use Rattle.taking.specs.declared.Flow.{Flow}
 use Rattle.taking.specs.Walk.{Inside, insideBy}
-use Rattle.taking.proofs.Growing.{neither, on-true, by-inside, at-end-grew, ended-took, shown-took, put-room, put-took, stick-took}
+use Rattle.format.proofs.Tests.{neither, on-true}
+use Rattle.taking.proofs.Growing.{by-inside, at-end-grew, ended-took, shown-took, put-room, put-took, stick-took}
 use borrow.Author.Needs.{needs}
 use Rattle.taking.proofs.take_byte.Statement.{statement}
 use Rattle.taking.proofs.take_byte.Tie as tie

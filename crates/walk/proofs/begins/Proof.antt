@@ -1,6 +1,6 @@
 -- `walk::begins` meets its contract.
 use borrow.Author.Tests.{eqb-true, eqb-false, not-true}
-use Rattle.runs.proofs.Runs.{and-both}
+use Rattle.format.proofs.Tests.{and-both}
 use Rattle.walk.proofs.begins.Statement.{statement}
 use Rattle.walk.proofs.begins.Tie as tie
 

@@ -7,7 +7,7 @@ use native.Mathlib.Omega.{arith}
 use lib.ListN.{length, take, drop}
 use lib.Count.{trailingZeros}
 use Rattle.format.specs.Dialect.{dialect}
-use Rattle.runs.proofs.Words.{Marked}
+use Rattle.words.proofs.Words.{Marked}
 use Rattle.fill.specs.Put.{endOf, fieldFits}
 use Rattle.fill.proofs.Grown.{wrote-then, wrote-sizes}
 use Rattle.fill.proofs.Put.{field-room}

@@ -1,12 +1,12 @@
--- `runs::stop_table` meets its contract.
+-- `words::stop_table` meets its contract.
 use Prim.Native.Nat.{_-_}
 use mathlib.Core.Path.{refl}
 use native.Mathlib.Omega.{arith}
 use Rattle.format.specs.Dialect.{dialect}
 use Rattle.runs.specs.Runs.{isPlain}
-use Rattle.runs.proofs.Words.{MarkedBelow, marked-more}
-use Rattle.runs.proofs.stop_table.Statement.{statement}
-use Rattle.runs.proofs.stop_table.Tie as tie
+use Rattle.words.proofs.Words.{MarkedBelow, marked-more}
+use Rattle.words.proofs.stop_table.Statement.{statement}
+use Rattle.words.proofs.stop_table.Tie as tie
 
 abbrev Inv-loop : tie.InvT-loop
 Inv-loop delimiter leniencies t₀ i₀ t i = MarkedBelow (isPlain (dialect delimiter leniencies)) i t

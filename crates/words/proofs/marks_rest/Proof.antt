@@ -1,13 +1,13 @@
--- `runs::marks_rest` meets its contract.
+-- `words::marks_rest` meets its contract.
 use Prim.Native.Nat.{ℕ, _+_, _-_, _*_, _≤_, _<_}
 use mathlib.Core.Path.{_≡_, ap, _∙_}
 use mathlib.Core.Bool.{false}
 use native.Mathlib.Omega.{arith}
 use lib.ListN.{length, drop, getD}
-use Rattle.runs.specs.Words.{word}
-use Rattle.runs.proofs.Words.{bit-le, word-none, rest-room, rest-more, rest-all}
-use Rattle.runs.proofs.marks_rest.Statement.{statement}
-use Rattle.runs.proofs.marks_rest.Tie as tie
+use Rattle.words.specs.Words.{word}
+use Rattle.words.proofs.Words.{bit-le, word-none, rest-room, rest-more, rest-all}
+use Rattle.words.proofs.marks_rest.Statement.{statement}
+use Rattle.words.proofs.marks_rest.Tie as tie
 
 abbrev Inv-loop : tie.InvT-loop
 Inv-loop t s at w₀ i₀ w i = (i ≤ length s) × (length s < at + 64) × (w ≡ word t (drop i s)) × (length s - i ≤ length s - at)

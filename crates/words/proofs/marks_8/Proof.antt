@@ -1,9 +1,9 @@
--- `runs::marks_8` meets its contract.
+-- `words::marks_8` meets its contract.
 use native.Mathlib.Omega.{arith}
-use Rattle.runs.proofs.Words.{halves-fit, halves-join}
+use Rattle.words.proofs.Words.{halves-fit, halves-join}
 use borrow.Author.Needs.{needs}
-use Rattle.runs.proofs.marks_8.Statement.{statement}
-use Rattle.runs.proofs.marks_8.Tie as tie
+use Rattle.words.proofs.marks_8.Statement.{statement}
+use Rattle.words.proofs.marks_8.Tie as tie
 
 marks-4-requires : tie.Need-marks-4-requires
 marks-4-requires c κs = search needs

@@ -1,12 +1,12 @@
--- `runs::shifted` meets its contract.
+-- `words::shifted` meets its contract.
 use Prim.Native.Nat.{_^_, _≤_, _<_}
 use native.Mathlib.Nat.{lt-of-lt-of-le, div-eq-of-lt}
 use native.Mathlib.Omega.{arith}
 use mathlib.Core.Path.{sym}
 use lib.Pow.{pow-mono}
 use borrow.Author.Needs.{needs}
-use Rattle.runs.proofs.shifted.Statement.{statement}
-use Rattle.runs.proofs.shifted.Tie as tie
+use Rattle.words.proofs.shifted.Statement.{statement}
+use Rattle.words.proofs.shifted.Tie as tie
 
 shr-result : tie.Need-shr-result
 shr-result c = search needs

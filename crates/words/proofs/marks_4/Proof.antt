@@ -1,13 +1,13 @@
--- `runs::marks_4` meets its contract.
+-- `words::marks_4` meets its contract.
 use Prim.Native.Nat.{ℕ, _+_, _-_, _*_, _≤_, _<_}
 use mathlib.Core.Path.{_≡_, ap, _∙_}
 use native.Mathlib.Omega.{arith}
 use mathlib.Core.Bool.{false}
 use lib.ListN.{length, take, drop, getD}
-use Rattle.runs.specs.Words.{word}
-use Rattle.runs.proofs.Words.{bit-le, part-room, part-more, part-none}
-use Rattle.runs.proofs.marks_4.Statement.{statement}
-use Rattle.runs.proofs.marks_4.Tie as tie
+use Rattle.words.specs.Words.{word}
+use Rattle.words.proofs.Words.{bit-le, part-room, part-more, part-none}
+use Rattle.words.proofs.marks_4.Statement.{statement}
+use Rattle.words.proofs.marks_4.Tie as tie
 
 abbrev Inv-loop : tie.InvT-loop
 Inv-loop t s at w₀ i₀ w i = (i ≤ 4) × (w ≡ word t (drop i (take 4 (drop at s)))) × (at + 4 ≤ length s)

@@ -14,8 +14,8 @@ use lib.Dec.{leb}
 use borrow.Author.Count.{below-more}
 use borrow.Author.Tests.{leb-true, leb-false}
 use Rattle.format.specs.Table.{Bytes}
 use Rattle.runs.specs.Runs.{run}
-use Rattle.runs.specs.Words.{bit, word, blockEnd, Marks}
+use Rattle.words.specs.Words.{bit, word, blockEnd, Marks}
 
 pub bit-le : (x : Bool) → bit x ≤ 1
 bit-le true = omega arith

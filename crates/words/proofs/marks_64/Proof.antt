@@ -1,11 +1,11 @@
--- `runs::marks_64` meets its contract.
+-- `words::marks_64` meets its contract.
 use Prim.Native.Nat.{_+_, _≤_}
 use native.Mathlib.Omega.{arith}
 use lib.ListN.{length}
-use Rattle.runs.proofs.Words.{halves-fit, halves-join}
+use Rattle.words.proofs.Words.{halves-fit, halves-join}
 use borrow.Author.Needs.{needs}
-use Rattle.runs.proofs.marks_64.Statement.{statement}
-use Rattle.runs.proofs.marks_64.Tie as tie
+use Rattle.words.proofs.marks_64.Statement.{statement}
+use Rattle.words.proofs.marks_64.Tie as tie
 
 marks-rest-requires : tie.Need-marks-rest-requires
 marks-rest-requires c κs = search needs

@@ -1,9 +1,9 @@
--- `runs::marks_32` meets its contract.
+-- `words::marks_32` meets its contract.
 use native.Mathlib.Omega.{arith}
-use Rattle.runs.proofs.Words.{halves-fit, halves-join}
+use Rattle.words.proofs.Words.{halves-fit, halves-join}
 use borrow.Author.Needs.{needs}
-use Rattle.runs.proofs.marks_32.Statement.{statement}
-use Rattle.runs.proofs.marks_32.Tie as tie
+use Rattle.words.proofs.marks_32.Statement.{statement}
+use Rattle.words.proofs.marks_32.Tie as tie
 
 marks-requires : tie.Need-marks-requires
 marks-requires c κs = search needs

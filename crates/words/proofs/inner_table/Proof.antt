@@ -1,11 +1,11 @@
--- `runs::inner_table` meets its contract.
+-- `words::inner_table` meets its contract.
 use Prim.Native.Nat.{_-_}
 use mathlib.Core.Path.{refl}
 use native.Mathlib.Omega.{arith}
 use Rattle.runs.specs.Runs.{isInner}
-use Rattle.runs.proofs.Words.{MarkedBelow, marked-more}
-use Rattle.runs.proofs.inner_table.Statement.{statement}
-use Rattle.runs.proofs.inner_table.Tie as tie
+use Rattle.words.proofs.Words.{MarkedBelow, marked-more}
+use Rattle.words.proofs.inner_table.Statement.{statement}
+use Rattle.words.proofs.inner_table.Tie as tie
 
 abbrev Inv-loop : tie.InvT-loop
 Inv-loop t₀ i₀ t i = MarkedBelow isInner i t

@@ -1,9 +1,9 @@
--- `runs::marks` meets its contract.
+-- `words::marks` meets its contract.
 use native.Mathlib.Omega.{arith}
-use Rattle.runs.proofs.Words.{halves-fit, halves-join}
+use Rattle.words.proofs.Words.{halves-fit, halves-join}
 use borrow.Author.Needs.{needs}
-use Rattle.runs.proofs.marks.Statement.{statement}
-use Rattle.runs.proofs.marks.Tie as tie
+use Rattle.words.proofs.marks.Statement.{statement}
+use Rattle.words.proofs.marks.Tie as tie
 
 marks-8-requires : tie.Need-marks-8-requires
 marks-8-requires c κs = search needs

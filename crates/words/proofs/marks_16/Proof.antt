@@ -1,10 +1,10 @@
--- `runs::marks_16` meets its contract.
+-- `words::marks_16` meets its contract.
 use mathlib.Core.Path.{_∙_}
 use native.Mathlib.Omega.{arith}
-use Rattle.runs.proofs.Words.{part-short}
+use Rattle.words.proofs.Words.{part-short}
 use borrow.Author.Needs.{needs}
-use Rattle.runs.proofs.marks_16.Statement.{statement}
-use Rattle.runs.proofs.marks_16.Tie as tie
+use Rattle.words.proofs.marks_16.Statement.{statement}
+use Rattle.words.proofs.marks_16.Tie as tie
 
 marks-rest-requires : tie.Need-marks-rest-requires
 marks-rest-requires c κs = search needs
