@@ -1,12 +1,12 @@
--- What has been said of how many bytes can be taken at once.
-use Prim.Native.Nat.{ℕ, _+_, _-_, _≤_, min}
+-- How many bytes can be taken at once, as the code computes it, and what follows for them.
+use Prim.Native.Nat.{ℕ, _+_, _-_, _≤_, _<_, min}
 use native.Mathlib.Omega.{arith}
 use mathlib.Core.Path.{_≡_, refl}
 use mathlib.Core.Bool.{Bool, true, false, not, _||_}
 use mathlib.Core.List.{List}
 use lib.Dec.{eqb, ltb}
 use lib.ListN.{length}
-use borrow.Author.Tests.{ltb-true, ltb-false, eqb-true, not-false}
+use borrow.Author.Tests.{ltb-true, ltb-false, lt-ltb, le-ltb, eqb-true, not-false}
 use Rattle.format.specs.House.{contentLimit, fileLimit}
 use Rattle.places.specs.Counters.{counterLimit}
 use Rattle.taking.specs.declared.Flow.{Flow}
@@ -26,6 +26,38 @@ wide2 h i = omega (arith, h, i)
 
 pub wide3 : {a b d : ℕ} → Fits w32 a → Fits w32 b → Fits w32 d → Fits w64 (a + b + d)
 wide3 h i j = omega (arith, h, i, j)
+
+-- what the code computes, step by step
+module _ (p : Flow) (text ends rows : ℕ) where
+  pub room-none : (ltb (counted p) (p .text) || ltb (fieldsCounted p) (p .ends)) ≡ true → 0 ≡ roomFor p text ends rows
+  unfolding roomFor
+  room-none h = rw h
+
+  pub room-is :
+      (ltb (counted p) (p .text) || ltb (fieldsCounted p) (p .ends)) ≡ false → {a b c d e f g h i r : ℕ} → a ≡ text - p .text → b ≡ a - p .state .check .field .held
+      → c ≡ fileLimit - (counted p + p .state .check .field .held) → d ≡ min b c → e ≡ ends - p .ends → f ≡ min d e → g ≡ rows - p .rows → h ≡ min f g
+      → i ≡ fileLimit - fieldsCounted p → r ≡ min h i → r ≡ roomFor p text ends rows
+  unfolding roomFor
+  room-is x a b c d e f g h i r = rw (x, r, h, f, d, b, a, c, e, g, i)
+
+module _ (p : Flow) (most piece text ends rows : ℕ) where
+  pub part-outside : insideBy p piece text ends rows ≡ false → 0 ≡ partOf p most piece text ends rows
+  unfolding partOf
+  part-outside h = rw h
+
+  module _ (h : insideBy p piece text ends rows ≡ true) where
+    pub part-none : (not (eqb (p .state .early) 0) || not (eqb (p .state .closed) 0)) ≡ true → 0 ≡ partOf p most piece text ends rows
+    unfolding partOf
+    part-none i = rw (h, i)
+
+    module _ (i : (not (eqb (p .state .early) 0) || not (eqb (p .state .closed) 0)) ≡ false) {n : ℕ} (e : n ≡ min most (piece - p .taken)) where
+      pub part-over : contentLimit < p .state .check .field .content → n ≡ partOf p most piece text ends rows
+      unfolding partOf
+      part-over l = rw (h, i, lt-ltb contentLimit (p .state .check .field .content) l) e
+
+      pub part-room : p .state .check .field .content ≤ contentLimit → {m r : ℕ} → m ≡ roomFor p text ends rows → r ≡ min n m → r ≡ partOf p most piece text ends rows
+      unfolding partOf
+      part-room l q s = rw (h, i, le-ltb contentLimit (p .state .check .field .content) l, ← e, ← q) s
 
 -- what is no more than the smaller of two numbers, and than a difference that is not 0
 at-most : (a b n : ℕ) → n ≤ min a b → (n ≤ a) × (n ≤ b)

@@ -2,10 +2,10 @@
 use Prim.Native.Nat.{_≤_}
 use mathlib.Core.Path.{_≡_, sym, _∙_}
 use mathlib.Core.Bool.{true, false}
-use borrow.Author.Tests.{lt-ltb, le-ltb, not-true, not-false}
+use borrow.Author.Tests.{not-true, not-false}
 use Rattle.taking.specs.Walk.{insideBy}
 use Rattle.taking.proofs.Growing.{inside-parts}
-use Rattle.room.specs.Room.{partOf}
+use Rattle.room.proofs.Counted.{part-outside, part-none, part-over, part-room}
 use Rattle.room.proofs.part.Statement.{statement}
 use Rattle.room.proofs.part.Tie as tie
 
@@ -19,12 +19,10 @@ is-inside-requires : tie.Need-is-inside-requires
 is-inside-requires c κs = tt
 
 returns : tie.Need-returns
-unfolding partOf
-returns c = rw (outside c)
+returns c = part-outside _ _ _ _ _ _ (outside c)
 
 returns-2 : tie.Need-returns-2
-unfolding partOf
-returns-2 c = rw (inside (c .before .before .before), c .if2 .taken)
+returns-2 c = part-none _ _ _ _ _ _ (inside (c .before .before .before)) (c .if2 .taken)
 
 sub-smaller : tie.Need-sub-smaller
 sub-smaller c =
@@ -36,11 +34,10 @@ smaller-requires : tie.Need-smaller-requires
 smaller-requires c κs = tt
 
 returns-3 : tie.Need-returns-3
-unfolding partOf
 returns-3 c =
     let k = c .before .before in
     let x = k .before .before in
-    rw (inside (x .before .before .before), x .if2 .left, lt-ltb _ _ (c .if3 .taken)) (k .smaller .ensures)
+    part-over _ _ _ _ _ _ (inside (x .before .before .before)) (x .if2 .left) (k .smaller .ensures) (c .if3 .taken)
 
 room-for-requires : tie.Need-room-for-requires
 room-for-requires c κs = tt
@@ -49,11 +46,10 @@ smaller-requires-2 : tie.Need-smaller-requires-2
 smaller-requires-2 c κs = tt
 
 returns-4 : tie.Need-returns-4
-unfolding partOf
 returns-4 c =
     let k = c .before .before .before .before in
     let x = k .before .before in
-    rw (inside (x .before .before .before), x .if2 .left, le-ltb _ _ (c .before .before .if3 .left), ← (k .smaller .ensures), ← (c .before .room-for .ensures)) (c .smaller2 .ensures)
+    part-room _ _ _ _ _ _ (inside (x .before .before .before)) (x .if2 .left) (k .smaller .ensures) (c .before .before .if3 .left) (c .before .room-for .ensures) (c .smaller2 .ensures)
 
 pub part-spec : {M : Type 1} → statement M
 part-spec =

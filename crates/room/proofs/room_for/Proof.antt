@@ -1,8 +1,7 @@
 -- `room::room_for` meets its contract.
 use mir.Syntax.{w32}
 use mir.Val.{Fits}
-use Rattle.room.specs.Room.{roomFor}
-use Rattle.room.proofs.Counted.{wide, wide2, wide3}
+use Rattle.room.proofs.Counted.{wide, wide2, wide3, room-none, room-is}
 use borrow.Author.Needs.{needs}
 use Rattle.room.proofs.room_for.Statement.{statement}
 use Rattle.room.proofs.room_for.Tie as tie
@@ -33,8 +32,7 @@ cast-f : tie.Need-cast-f
 cast-f c = wide (fields-fits c)
 
 returns : tie.Need-returns
-unfolding roomFor
-returns c = rw (c .if1 .taken)
+returns c = room-none _ _ _ _ (c .if1 .taken)
 
 cast-held : tie.Need-cast-held
 cast-held c = wide (held-fits c)
@@ -79,13 +77,10 @@ smaller-requires-4 : tie.Need-smaller-requires-4
 smaller-requires-4 c κs = tt
 
 returns-2 : tie.Need-returns-2
-unfolding roomFor
 returns-2 c =
     let k = c .before .before .before .before .before .before in
     let m = k .before in
-    rw
-    (m .before .before .before .before .if1 .left, ← (m .before .before .minus .ensures), ← (m .before .minus2 .ensures), ← (m .minus3 .ensures), ← (k .smaller .ensures), ← (c .before .before .before .before .before .minus4 .ensures), ← (c .before .before .before .before .smaller2 .ensures), ← (c .before .before .before .minus5 .ensures), ← (c .before .before .smaller3 .ensures), ← (c .before .minus6 .ensures))
-    (c .smaller4 .ensures)
+    room-is _ _ _ _ (m .before .before .before .before .if1 .left) (m .before .before .minus .ensures) (m .before .minus2 .ensures) (m .minus3 .ensures) (k .smaller .ensures) (c .before .before .before .before .before .minus4 .ensures) (c .before .before .before .before .smaller2 .ensures) (c .before .before .before .minus5 .ensures) (c .before .before .smaller3 .ensures) (c .before .minus6 .ensures) (c .smaller4 .ensures)
 
 pub room-for-spec : {M : Type 1} → statement M
 room-for-spec =
