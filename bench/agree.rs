@@ -57,12 +57,7 @@ pub fn on_small_files() -> String {
         on(file, &mut to);
     }
     let number = FILES.len() + files.len();
-    let ours = if ours::STREAMS {
-        ", our read and our stream"
-    } else {
-        " and our read"
-    };
-    format!("Both checks{ours} agree on {number} small files.")
+    format!("Both checks, our read and our stream agree on {number} small files.")
 }
 
 /// The answer of the ordinary check, if our check, our read and our stream give the same. Of a table that
@@ -78,13 +73,11 @@ pub fn on(file: &[u8], to: &mut Buffers) -> Answer {
         let last = (answer.fields, answer.text);
         assert_eq!((row, end), last, "last entries: {}", shown(file));
     }
-    if ours::STREAMS {
-        let (streamed, came) = ours::stream(file, PIECE, to);
-        assert_eq!(streamed, told, "our stream: {}", shown(file));
-        let all = (answer.records, answer.fields, answer.text);
-        let whole = came == all || answer.refusal != 0;
-        assert!(whole, "our stream, {came:?}: {}", shown(file));
-    }
+    let (streamed, came) = ours::stream(file, PIECE, to);
+    assert_eq!(streamed, told, "our stream: {}", shown(file));
+    let all = (answer.records, answer.fields, answer.text);
+    let whole = came == all || answer.refusal != 0;
+    assert!(whole, "our stream, {came:?}: {}", shown(file));
     answer
 }
 

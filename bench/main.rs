@@ -7,7 +7,6 @@ mod inputs;
 mod ordinary;
 mod other;
 mod ours;
-#[cfg(target_arch = "x86_64")]
 #[path = "../include/siprovault.rs"]
 mod siprovault;
 
@@ -68,11 +67,7 @@ fn main() {
     println!(
         "16 MiB each, the least of {TURNS} turns or more in {seconds} s, buffers cleared before."
     );
-    if ours::STREAMS {
-        println!(
-            "The stream has pieces of {PIECE} bytes, and as much room in text, ends and rows."
-        );
-    }
+    println!("The stream has pieces of {PIECE} bytes, and as much room in text, ends and rows.");
     println!("Ratio: of our check to the ordinary check, of our read to csv-core's,");
     println!("of our stream to our read.");
     println!(
@@ -85,7 +80,7 @@ fn main() {
     }
     let mut room = Buffers::cleared(64, 16);
     pieces("our stream, room 64, 16 and 16", 64, |file| {
-        ours::STREAMS.then(|| ours::stream(file, 64, &mut room).0)
+        ours::stream(file, 64, &mut room).0
     });
     for (input, job, to, most) in BARS {
         bar(&all, input, job, to, most);
@@ -117,10 +112,8 @@ fn timed(input: &Input, seconds: u64) -> Times {
             let counted = times.of(CSV_CORE, || other::read(&file, &mut text, &mut ends));
             assert!(counted == counts || answer.refusal != 0, "{counted:?}");
         }
-        if ours::STREAMS {
-            let given = times.of(STREAM, || ours::stream(&file, PIECE, &mut room));
-            assert_eq!(given.0, told);
-        }
+        let given = times.of(STREAM, || ours::stream(&file, PIECE, &mut room));
+        assert_eq!(given.0, told);
     }
     times.print();
     times
@@ -175,16 +168,13 @@ fn clocked<T>(run: impl FnOnce() -> T) -> (f64, T) {
     (start.elapsed().as_secs_f64(), result)
 }
 
-/// Times our check or our stream fed in small pieces, where it can be.
-fn pieces(job: &str, size: usize, mut run: impl FnMut(&[u8]) -> Option<ours::Told>) {
+/// Times our check or our stream fed in small pieces.
+fn pieces(job: &str, size: usize, mut run: impl FnMut(&[u8]) -> ours::Told) {
     let file = inputs::short_rows(LIMIT / 16);
-    let whole = Some(ours::check(&file));
+    let whole = ours::check(&file);
     let mut least = f64::INFINITY;
     for _ in 0..3 * TURNS {
         let (seconds, told) = clocked(|| run(&file));
-        if told.is_none() {
-            return;
-        }
         assert_eq!(told, whole, "{job}, pieces of {size}");
         least = least.min(seconds);
     }

@@ -29,7 +29,7 @@ putOut c g =
       rows = rowsLeft false (dialectOf c) g (formOf (c .form)) (c .counts .fields .0) true;
     }
 
--- what has been counted by the end of the text that is closed, and of the field in work
+-- the text that the check has counted, with the content of the field in work; and the fields
 abbrev pub counted : Flow → ℕ
 counted p = p .state .check .counts .text + p .state .check .field .content
 
