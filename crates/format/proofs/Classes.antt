@@ -281,6 +281,60 @@ printed-inside d b l h other =
     decide P (eqb b 0x20) (λ e. decide P (d .allows blanks) (λ k. refl) (λ k. refl)) λ e₅.
     decide P (isPrintable b) (λ e. refl) λ e₆. absurd (not-printable b e₆ (omega (arith, eqb-false b 0x20 e₅)) h)
 
+-- a byte that is not the delimiter, by the ranges that the rules name
+module _ (d : Dialect) (b : ℕ) (other : b ≡ d .delimiterByte → ⊥) where
+  pub blank-class : b ≡ 0x20 → classOf d b ≡ cond (d .allows blanks) blank text
+  unfolding classOf
+  blank-class e = rw (ne-eqb b (d .delimiterByte) other, eq-eqb b 0x20 e, ne-eqb b 0x22 (λ q. omega arith), ne-eqb b 0x0D (λ q. omega arith), ne-eqb b 0x0A (λ q. omega arith))
+
+  pub printed-class : 0x21 ≤ b → b ≤ 0x7E → (b ≡ 0x22 → ⊥) → classOf d b ≡ text
+  unfolding classOf
+  printed-class l h q =
+      rw (
+        ne-eqb b (d .delimiterByte) other,
+        ne-eqb b 0x22 q,
+        ne-eqb b 0x0D (λ e. omega arith),
+        ne-eqb b 0x0A (λ e. omega arith),
+        ne-eqb b 0x20 (λ e. omega arith),
+        le-leb 0x21 b l,
+        le-leb b 0x7E h,
+      )
+
+  -- what is beyond them and no line break is text only as a byte that "bytes" allows
+  pub beyond-class : (b ≡ 0x0D → ⊥) → (b ≡ 0x0A → ⊥) → (0x20 ≤ b → b ≤ 0x7E → ⊥) → classOf d b ≡ cond (isWide b && d .allows bytes) text forbidden
+  unfolding classOf
+  beyond-class v w out =
+      let P : Class → Type 0 = λ x. x ≡ cond (isWide b && d .allows bytes) text forbidden in
+      rw (
+        ne-eqb b (d .delimiterByte) other,
+        ne-eqb b 0x22 (λ e. out (omega arith) (omega arith)),
+        ne-eqb b 0x0D v,
+        ne-eqb b 0x0A w,
+        ne-eqb b 0x20 (λ e. out (omega arith) (omega arith)),
+      )
+      (decide P (isPrintable b) (λ e. let (l, h) = printable b e in absurd (out (omega arith) h)) (λ e. both (isWide b) (d .allows bytes)))
+    where
+      both : (x y : Bool) → cond x (cond y text forbidden) forbidden ≡ cond (x && y) text forbidden
+      both true y = refl
+      both false y = refl
+
+-- text that needs no leniency is in 0x20 to 0x7E
+pub text-range : (d : Dialect) (b : ℕ) → classOf d b ≡ text → isWide b ≡ false → (0x20 ≤ b) × (b ≤ 0x7E)
+text-range d b e n = go (leb 0x20 b) (leb b 0x7E) refl refl
+  where
+    m : (eqb b (d .delimiterByte) ≡ false) × (eqb b 0x22 ≡ false) × (eqb b 0x0D ≡ false) × (eqb b 0x0A ≡ false)
+    m = ordinary (eqb b (d .delimiterByte)) (eqb b 0x22) (eqb b 0x0D) (eqb b 0x0A) (text-ordinary d b e .0)
+
+    impossible : (0x20 ≤ b → b ≤ 0x7E → ⊥) → ⊥
+    impossible out =
+        let f = beyond-class d b (eqb-false b (d .delimiterByte) (m .0)) (eqb-false b 0x0D (m .2)) (eqb-false b 0x0A (m .3)) out in
+        subst (λ (y : Class). T (quotedClass y)) (sym e ∙ (rw n at f)) tt
+
+    go : (x y : Bool) → leb 0x20 b ≡ x → leb b 0x7E ≡ y → (0x20 ≤ b) × (b ≤ 0x7E)
+    go true true p q = (leb-true 0x20 b p, leb-true b 0x7E q)
+    go true false p q = absurd (impossible (λ l h. true≢false (sym (le-leb b 0x7E h) ∙ q)))
+    go false y p q = absurd (impossible (λ l h. true≢false (sym (le-leb 0x20 b l) ∙ p)))
+
 -- where "bytes" is off, such a byte is forbidden
 pub not-wide : (d : Dialect) (b : ℕ) → d .allows bytes ≡ false → (classOf d b ≡ forbidden → ⊥) → onlyWide (d .delimiterByte) b ≡ false
 unfolding classOf

@@ -6,11 +6,11 @@ use mathlib.Core.Bool.{Bool, true, false, not, _&&_, _||_, or-true, false≢true
 use mathlib.Core.Logic.{_⊎_, inl, inr}
 use lib.Dec.{eqb, leb}
 use lib.ListN.{getD, drop}
-use borrow.Author.Tests.{eqb-true, eqb-false, ne-eqb, leb-true, le-leb, lt-leb}
+use borrow.Author.Tests.{ne-eqb, leb-true, le-leb, lt-leb}
 use Rattle.format.specs.Table.{Bytes}
-use Rattle.format.specs.Dialect.{Dialect, strict, isWide, Class, text, blank, delimiter, quote, CR, LF, forbidden, classOf}
-use Rattle.format.proofs.Classes.{quotedClass, text-ordinary, CR-inside, printed-inside, textdata-range, Strict, strict-text, strict-comma, strict-quote, strict-CR, strict-LF, strict-other, strict-class}
-use Rattle.runs.specs.Runs.{run, isText, isPlain, isInner}
+use Rattle.format.specs.Dialect.{Dialect, isWide, Class, text, blank, delimiter, quote, CR, LF, forbidden, classOf}
+use Rattle.format.proofs.Classes.{quotedClass, text-ordinary, text-range, CR-inside, printed-inside, textdata-range, Strict, strict-text, strict-comma, strict-quote, strict-CR, strict-LF, strict-other, strict-class}
+use Rattle.runs.specs.Runs.{run, isText, isPlain, isInnerClass, isInner}
 use Rattle.runs.proofs.Runs.{run-holds}
 
 -- plain text
@@ -34,28 +34,53 @@ plain-class d b e = plain-parts d b e .0
 pub plain-narrow : (d : Dialect) (b : ℕ) → isPlain d b ≡ true → isWide b ≡ false
 plain-narrow d b e = plain-parts d b e .1
 
+pub plain-range : (d : Dialect) (b : ℕ) → (0x20 ≤ b → b ≤ 0x7E → ⊥) → isPlain d b ≡ false
+plain-range d b out = go (isPlain d b) refl
+  where
+    go : (x : Bool) → isPlain d b ≡ x → x ≡ false
+    go true e = let (t, n) = plain-parts d b e in let (l, h) = text-range d b t n in absurd (out l h)
+    go false e = refl
+
 lf-not-plain : (d : Dialect) → isPlain d 0x0A ≡ true → ⊥
 lf-not-plain d e = false≢true (sym (text-ordinary d 0x0A (plain-class d 0x0A e) .0) ∙ or-true (eqb 0x0A (d .delimiterByte)))
 
 pub plain-no-lf : (d : Dialect) (b : ℕ) → isPlain d b ≡ true → eqb b 0x0A ≡ false
 plain-no-lf d b e = ne-eqb b 0x0A (λ q. lf-not-plain d (rw q at e))
 
--- between quotes
+-- between quotes: CR, and 0x20 to 0x7E but for the quote
+pub inner-range : (b : ℕ) → isInner b ≡ (eqb b 0x0D || ((leb 0x20 b && leb b 0x7E) && not (eqb b 0x22)))
+unfolding isInner
+inner-range b = go (strict-class b)
+  where
+    outside : (x y : Bool) → leb 0x20 b ≡ x → leb b 0x7E ≡ y → (0x20 ≤ b → b ≤ 0x7E → ⊥) → false ≡ ((x && y) && not (eqb b 0x22))
+    outside true true p q u = absurd (u (leb-true 0x20 b p) (leb-true b 0x7E q))
+    outside true false p q u = refl
+    outside false y p q u = refl
+
+    go : {x : Class} → Strict b x → isInnerClass x ≡ (eqb b 0x0D || ((leb 0x20 b && leb b 0x7E) && not (eqb b 0x22)))
+    go (strict-text t) =
+        let r = textdata-range t in
+        rw (le-leb 0x20 b (r .low), le-leb b 0x7E (r .high), ne-eqb b 0x22 (r .no-quote)) (sym (or-true (eqb b 0x0D)))
+    go (strict-comma q) = rw q
+    go (strict-quote q) = rw q
+    go (strict-CR q) = rw q
+    go (strict-LF q) = rw q
+    go (strict-other u v w) = rw (ne-eqb b 0x0D v) (outside (leb 0x20 b) (leb b 0x7E) refl refl u)
+
 abbrev InnerParts : ℕ → Type 0
-InnerParts b = (b ≡ 0x0D) ⊎ ((0x20 ≤ b) × (b ≤ 0x7E) × (eqb b 0x22 ≡ false))
+InnerParts b = (b ≡ 0x0D) ⊎ ((0x20 ≤ b) × (b ≤ 0x7E) × (b ≡ 0x22 → ⊥))
 
 inner-parts : (b : ℕ) → isInner b ≡ true → InnerParts b
 unfolding isInner
-inner-parts b = go (eqb b 0x0D) (leb 0x20 b) (leb b 0x7E) (eqb b 0x22) refl refl refl refl
+inner-parts b e = go (strict-class b) e
   where
-    go :
-        (x y z w : Bool) → eqb b 0x0D ≡ x → leb 0x20 b ≡ y → leb b 0x7E ≡ z → eqb b 0x22 ≡ w
-        → (x || ((y && z) && not w)) ≡ true → InnerParts b
-    go true y z w p q r s e = inl (eqb-true b 0x0D p)
-    go false true true false p q r s e = inr (leb-true 0x20 b q, leb-true b 0x7E r, s)
-    go false true true true p q r s e = absurd (false≢true e)
-    go false true false w p q r s e = absurd (false≢true e)
-    go false false z w p q r s e = absurd (false≢true e)
+    go : {x : Class} → Strict b x → isInnerClass x ≡ true → InnerParts b
+    go (strict-text t) e = let r = textdata-range t in inr (r .low, r .high, r .no-quote)
+    go (strict-comma q) e = inr (omega arith, omega arith, λ w. omega arith)
+    go (strict-quote q) e = absurd (false≢true e)
+    go (strict-CR q) e = inl q
+    go (strict-LF q) e = absurd (false≢true e)
+    go (strict-other u v w) e = absurd (false≢true e)
 
 pub inner-no-lf : (b : ℕ) → isInner b ≡ true → eqb b 0x0A ≡ false
 inner-no-lf b e = go (inner-parts b e)
@@ -76,27 +101,7 @@ inner-inside d b e = go (inner-parts b e)
   where
     go : InnerParts b → quotedClass (classOf d b) ≡ true
     go (inl q) = rw q (CR-inside d)
-    go (inr q) = printed-inside d b (q .0) (q .1) (eqb-false b 0x22 (q .2))
-
--- and no other byte is: an inner byte is one that is content between quotes in the strict dialect, but for LF
-pub inner-is : (b : ℕ) → isInner b ≡ (quotedClass (classOf strict b) && not (eqb b 0x0A))
-unfolding isInner
-inner-is b = go (strict-class b)
-  where
-    outside : (x y : Bool) → leb 0x20 b ≡ x → leb b 0x7E ≡ y → (0x20 ≤ b → b ≤ 0x7E → ⊥) → ((x && y) && not (eqb b 0x22)) ≡ false
-    outside true true p q u = absurd (u (leb-true 0x20 b p) (leb-true b 0x7E q))
-    outside true false p q u = refl
-    outside false y p q u = refl
-
-    go : {x : Class} → Strict b x → (eqb b 0x0D || ((leb 0x20 b && leb b 0x7E) && not (eqb b 0x22))) ≡ (quotedClass x && not (eqb b 0x0A))
-    go (strict-text t) =
-        let r = textdata-range t in
-        rw (le-leb 0x20 b (r .low), le-leb b 0x7E (r .high), ne-eqb b 0x22 (r .no-quote), ne-eqb b 0x0A (λ e. let l = r .low in omega arith)) (or-true (eqb b 0x0D))
-    go (strict-comma q) = rw q
-    go (strict-quote q) = rw q
-    go (strict-CR q) = rw q
-    go (strict-LF q) = rw q
-    go (strict-other u v w) = rw (ne-eqb b 0x0D v) (outside (leb 0x20 b) (leb b 0x7E) refl refl u)
+    go (inr q) = printed-inside d b (q .0) (q .1) (q .2)
 
 -- what stands in a run of plain text, and in one between quotes
 pub text-run-stands : (d : Dialect) (s : Bytes) (i k : ℕ) → k < run (isPlain d) (drop i s) → (classOf d (getD s (i + k) 0) ≡ text) × (isWide (getD s (i + k) 0) ≡ false)

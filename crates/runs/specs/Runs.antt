@@ -1,10 +1,10 @@
 -- How long the runs are that a walk over a file may pass at once.
 use Prim.Native.Nat.{ℕ, suc}
-use mathlib.Core.Bool.{Bool, true, false, cond, not, _&&_, _||_}
+use mathlib.Core.Bool.{Bool, true, false, cond, not, _&&_}
 use mathlib.Core.List.{[], _∷_}
-use lib.Dec.{eqb, leb}
+use lib.Dec.{eqb}
 use Rattle.format.specs.Table.{Bytes}
-use Rattle.format.specs.Dialect.{Dialect, isWide, Class, text, blank, delimiter, quote, CR, LF, forbidden, classOf}
+use Rattle.format.specs.Dialect.{Dialect, strict, isWide, Class, text, blank, delimiter, quote, CR, LF, forbidden, classOf}
 
 -- the length of the longest front whose bytes all have a property
 unfoldable pub run : (ℕ → Bool) → Bytes → ℕ
@@ -24,9 +24,18 @@ isText forbidden = false
 unfoldable pub isPlain : Dialect → ℕ → Bool
 isPlain d b = isText (classOf d b) && not (isWide b)
 
--- a byte that is content between quotes in every dialect, needs no leniency and ends no line: CR, and 0x20 to 0x7E but for the quote
+abbrev pub isInnerClass : Class → Bool
+isInnerClass text = true
+isInnerClass blank = false
+isInnerClass delimiter = true
+isInnerClass quote = false
+isInnerClass CR = true
+isInnerClass LF = false
+isInnerClass forbidden = false
+
+-- a byte that is content between quotes in every dialect, needs no leniency and ends no line: at strict, where no byte is a blank, text, the comma or CR
 unfoldable pub isInner : ℕ → Bool
-isInner b = eqb b 0x0D || ((leb 0x20 b && leb b 0x7E) && not (eqb b 0x22))
+isInner b = isInnerClass (classOf strict b)
 
 -- how many pairs of quotes stand at the front
 unfoldable pub pairs : Bytes → ℕ

@@ -14,19 +14,7 @@ ghost use Rattle.runs.specs.Runs.{run, isPlain, isInner, pairs, isBreak}
 pub fn is_plain(delimiter: u8, leniencies: u8, b: u8) -> bool
     ensures { λ r. ⌜ r ≡ isPlain (dialect delimiter leniencies) b ⌝ }
 {
-    if b == delimiter {
-        return false;
-    }
-    if b == 0x22 {
-        return false;
-    }
-    if b == 0x20 {
-        return !steps::allows_blanks(leniencies);
-    }
-    if b < 0x21 {
-        return false;
-    }
-    b <= 0x7E
+    (steps::class_of(delimiter, leniencies, b) == steps::TEXT) & !steps::is_wide(b)
 }
 
 // How many bytes of plain text stand from a place on.
@@ -43,7 +31,8 @@ pub fn text_run(delimiter: u8, leniencies: u8, s: &[u8], from: usize) -> usize
     i - from
 }
 
-// Whether b is content between quotes in every dialect, needs no leniency and ends no line.
+// Whether b is content between quotes in every dialect, needs no leniency and ends no line. Its class at
+// strict says so too, but only without a branch do blocks become vectors.
 pub fn is_inner(b: u8) -> bool
     ensures { λ r. ⌜ r ≡ isInner b ⌝ }
 {

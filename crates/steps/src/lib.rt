@@ -122,34 +122,31 @@ pub fn is_wide(b: u8) -> bool
     (b == 0x09) | (0x80 <= b)
 }
 
-// The number of the class of b in the dialect of any two bytes.
+// The number of the class of b in the dialect of any two bytes. The delimiter and the quote come first: the
+// ranges hold them too.
 pub fn class_of(delimiter: u8, leniencies: u8, b: u8) -> u8
     ensures { λ r. ⌜ r ≡ classNumber (classOf (dialect delimiter leniencies) b) ⌝ }
 {
     if b == delimiter {
-        DELIMITER
-    } else if b == 0x22 {
-        QUOTE
-    } else if b == 0x0D {
-        CR
-    } else if b == 0x0A {
-        LF
-    } else if b == 0x20 {
-        if allows_blanks(leniencies) {
+        return DELIMITER;
+    }
+    if b == 0x22 {
+        return QUOTE;
+    }
+    match b {
+        0x0A => LF,
+        0x0D => CR,
+        0x20 => if allows_blanks(leniencies) {
             BLANK
         } else {
             TEXT
-        }
-    } else if 0x21 <= b && b <= 0x7E {
-        TEXT
-    } else if is_wide(b) {
-        if allows_bytes(leniencies) {
+        },
+        0x21..=0x7E => TEXT,
+        _ => if is_wide(b) & allows_bytes(leniencies) {
             TEXT
         } else {
             FORBIDDEN
-        }
-    } else {
-        FORBIDDEN
+        },
     }
 }
 

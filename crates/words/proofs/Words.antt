@@ -10,9 +10,8 @@ use lib.Count.{trailingZeros, under}
 use lib.ListN.{length, take, drop, getD, set, length-drop, length-take, length-set, drop-of-length-le}
 use lib.Pow.{pow-mono, shr-shr}
 use lib.Seq.{drop-cons, getD-take, getD-drop, length-take-le, take-add, take-all, take-nil, drop-drop, ext-getD, getD-set-same, getD-set-other}
-use lib.Dec.{leb}
-use borrow.Author.Count.{below-more}
-use borrow.Author.Tests.{leb-true, leb-false}
+use lib.Dec.{leb, eqb}
+use borrow.Author.Tests.{leb-true, leb-false, eqb-true, eqb-false}
 use Rattle.format.specs.Table.{Bytes}
 use Rattle.runs.specs.Runs.{run}
 use Rattle.words.specs.Words.{bit, word, blockEnd, Marks}
@@ -162,18 +161,19 @@ unmarked-has t p h b l e = go (p b) (ap not (sym (h b l)) ∙ e)
     go true q = refl
     go false q = q
 
--- a table that is marked below i, and one entry more
-abbrev pub MarkedBelow : (ℕ → Bool) → ℕ → List Bool → Type 0
-MarkedBelow p i t = (i ≤ 256) × (length t ≡ 256) × ((b : ℕ) → b < i → getD t b false ≡ not (p b))
+-- a table that is marked but for the entries from i to before e: one entry more, and all
+abbrev pub MarkedBut : (ℕ → Bool) → ℕ → ℕ → List Bool → Type 0
+MarkedBut p i e t = (i ≤ e) × (length t ≡ 256) × ((b : ℕ) → b < 256 → (i ≤ b → b < e → ⊥) → getD t b false ≡ not (p b))
 
-pub marked-more : (p : ℕ → Bool) (i : ℕ) (t : List Bool) (v : Bool) → MarkedBelow p i t → i < 256 → v ≡ not (p i) → MarkedBelow p (i + 1) (set t i v)
-marked-more p i t v h l e = (
-  omega arith,
-  length-set t i v ∙ h .1,
-  below-more (λ (b : ℕ). getD (set t i v) b false ≡ not (p b)) i
-      (λ b q. getD-set-other t i b v false (λ r. omega arith) ∙ h .2 b q)
-      (getD-set-same t i v false (omega (arith, h .1)) ∙ e),
-)
+pub marked-more : (p : ℕ → Bool) (i e : ℕ) (t : List Bool) (v : Bool) → MarkedBut p i e t → i < e → v ≡ not (p i) → MarkedBut p (i + 1) e (set t i v)
+marked-more p i e t v h l q = (omega arith, length-set t i v ∙ h .1, λ b k u. go b k u (eqb b i) refl)
+  where
+    go : (b : ℕ) → b < 256 → (i + 1 ≤ b → b < e → ⊥) → (x : Bool) → eqb b i ≡ x → getD (set t i v) b false ≡ not (p b)
+    go b k u true w = let s = eqb-true b i w in rw s (getD-set-same t i v false (omega (arith, h .1)) ∙ q)
+    go b k u false w = let n = eqb-false b i w in getD-set-other t i b v false n ∙ h .2 b k (λ x y. u (omega arith) y)
+
+pub marked-all : (p : ℕ → Bool) (i e : ℕ) (t : List Bool) → MarkedBut p i e t → e ≤ i → Marks t p
+marked-all p i e t h l b k = h .2 b k (λ x y. omega arith)
 
 -- the marks of a property are one table
 pub one-table : (t u : List Bool) (p : ℕ → Bool) → Marks t p → Marks u p → length t ≡ 256 → length u ≡ 256 → t ≡ u

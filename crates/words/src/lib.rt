@@ -128,13 +128,14 @@ pub fn later(i: usize, e: usize) -> usize
     if i < e { e } else { i }
 }
 
-// The table of a dialect's marks: each byte that is not plain text.
+// The table of a dialect's marks: each byte that is not plain text. Only 0x20 to 0x7E can be plain text, so
+// only those are judged.
 pub fn stop_table(delimiter: u8, leniencies: u8) -> [bool; 256]
     ensures { λ r. ⌜ Stops r (dialect delimiter leniencies) ⌝ }
 {
-    let mut t = [false; 256];
-    let mut i = 0;
-    while i < 256 {
+    let mut t = [true; 256];
+    let mut i = 0x20;
+    while i < 0x7F {
         t[i] = !runs::is_plain(delimiter, leniencies, i as u8);
         i += 1;
     }

@@ -1,21 +1,26 @@
 -- `words::stop_table` meets its contract.
 use Prim.Native.Nat.{_-_}
-use mathlib.Core.Path.{refl}
+use mathlib.Core.Path.{refl, sym, ap, _∙_}
+use mathlib.Core.Bool.{true, false, not}
 use native.Mathlib.Omega.{arith}
+use lib.ListN.{getD-replicate}
 use Rattle.format.specs.Dialect.{dialect}
 use Rattle.runs.specs.Runs.{isPlain}
-use Rattle.words.proofs.Words.{MarkedBelow, marked-more}
+use Rattle.runs.proofs.Bytes.{plain-range}
+use Rattle.words.proofs.Words.{MarkedBut, marked-more, marked-all}
 use Rattle.words.proofs.stop_table.Statement.{statement}
 use Rattle.words.proofs.stop_table.Tie as tie
 
 abbrev Inv-loop : tie.InvT-loop
-Inv-loop delimiter leniencies t₀ i₀ t i = MarkedBelow (isPlain (dialect delimiter leniencies)) i t
+Inv-loop delimiter leniencies t₀ i₀ t i = MarkedBut (isPlain (dialect delimiter leniencies)) i 0x7F t
 
 abbrev μ-loop : tie.MeasureT-loop
-μ-loop delimiter leniencies t₀ i₀ t i = 256 - i
+μ-loop delimiter leniencies t₀ i₀ t i = 0x7F - i
 
 loop-holds : tie.Need-loop-holds Inv-loop μ-loop
-loop-holds c = (omega arith, refl, λ b h. absurd (omega arith))
+loop-holds c =
+    let a = c .args in
+    (omega arith, refl, λ b h u. getD-replicate 256 b true false h ∙ sym (ap not (plain-range (dialect (a .delimiter) (a .leniencies)) b (λ x y. u x (omega arith)))))
 
 cast-is-plain : tie.Need-cast-is-plain Inv-loop μ-loop
 cast-is-plain c = omega arith
@@ -36,10 +41,13 @@ loop-again : tie.Need-loop-again Inv-loop μ-loop
 loop-again c =
     let l = c .before .before in
     let a = l .before .args in
-    marked-more (isPlain (dialect (a .delimiter) (a .leniencies))) (l .loop .i) (l .loop .t) _ (l .loop .inv) (omega arith) (rw (c .is-plain .ensures))
+    marked-more (isPlain (dialect (a .delimiter) (a .leniencies))) (l .loop .i) 0x7F (l .loop .t) _ (l .loop .inv) (omega arith) (rw (c .is-plain .ensures))
 
 returns : tie.Need-returns Inv-loop μ-loop
-returns c = λ b h. c .before .loop .inv .2 b (omega arith)
+returns c =
+    let l = c .before .loop in
+    let a = c .before .before .args in
+    marked-all (isPlain (dialect (a .delimiter) (a .leniencies))) (l .i) 0x7F (l .t) (l .inv) (omega arith)
 
 pub stop-table-spec : {M : Type 1} → statement M
 stop-table-spec =
