@@ -70,6 +70,17 @@ static void put(struct list *into, size_t index, uint64_t entry)
         ((uint32_t *)list_start(into))[index] = (uint32_t)entry;
 }
 
+/* Many equal bytes at once, since most long runs are that. */
+static void put_run(struct list *into, size_t index, uint64_t entry, uint64_t step, uint64_t count)
+{
+    if (into->width == 1 && step == 0) {
+        memset((uint8_t *)list_start(into) + index, (uint8_t)entry, count);
+        return;
+    }
+    for (; count > 0; count--, entry += step)
+        put(into, index++, entry);
+}
+
 void take_list(struct list *into)
 {
     size_t length = take_number();
@@ -86,8 +97,17 @@ void take_list(struct list *into)
         uint64_t count = take_number();
         if (count == 0 || count > length - i)
             broken_wire("a run is longer than its list");
-        for (; count > 0; count--, entry += step)
-            put(into, i++, entry);
+        put_run(into, i, entry, step, count);
+        i += count;
+    }
+}
+
+/* Puts a part of this length, which stands there once, there as often as makes up the whole. */
+static void repeat(uint8_t *bytes, size_t length, size_t whole)
+{
+    for (size_t done = length, more; done < whole; done += more) {
+        more = done < whole - done ? done : whole - done;
+        memcpy(bytes + done, bytes, more);
     }
 }
 
@@ -102,12 +122,14 @@ void take_parts(struct list *into)
     size_t length = 0;
     for (uint64_t parts = take_number(); parts > 0; parts--) {
         take_list(&part);
-        for (uint64_t times = take_number(); times > 0; times--) {
-            if (part.length > into->capacity - length)
-                broken_wire("a file is too long");
-            memcpy(front + length, list_start(&part), part.length);
-            length += part.length;
-        }
+        uint64_t times = take_number();
+        if (part.length == 0 || times == 0)
+            continue;
+        if (times > (into->capacity - length) / part.length)
+            broken_wire("a file is too long");
+        memcpy(front + length, list_start(&part), part.length);
+        repeat(front + length, part.length, part.length * times);
+        length += part.length * times;
     }
     list_resize(into, length);
     memmove(list_start(into), front, length);
