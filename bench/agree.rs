@@ -1,6 +1,6 @@
 //! The ordinary check and ours, our read and our stream must agree before they are timed.
 
-use crate::ordinary::{self, Answer};
+use crate::ordinary::{self, Answer, CONTENT_LIMIT};
 use crate::ours::{self, Buffers};
 use crate::PIECE;
 
@@ -24,8 +24,8 @@ const FILES: [(&[u8], [u32; 8]); 20] = [
     (b"a,b\r\nc", [10, 2, 2, 6, 0, 0, 0, 0]),
     (b"a,b\r\n\r\n", [10, 2, 1, 5, 0, 0, 0, 0]),
     (b" a , \"b\" ", [4, 1, 6, 5, 0, 0, 0, 0]),
-    (&[b'a'; 4_096], [0, 0, 0, 0, 1, 1, 4_096, 0]),
-    (&[b'a'; 4_097], [9, 1, 1, 0, 0, 0, 0, 0]),
+    (&[b'a'; 65_535], [0, 0, 0, 0, 1, 1, 65_535, 0]),
+    (&[b'a'; 65_536], [9, 1, 1, 0, 0, 0, 0, 0]),
 ];
 
 fn answer(n: [u32; 8]) -> Answer {
@@ -45,7 +45,7 @@ fn answer(n: [u32; 8]) -> Answer {
 /// The files above, one past the size limit, contents about their limit, every byte at every kind of
 /// place, and every file of up to six bytes out of six.
 pub fn on_small_files() -> String {
-    let mut to = Buffers::cleared(8_192, 64);
+    let mut to = Buffers::cleared(CONTENT_LIMIT + 64, 64);
     for (file, numbers) in FILES {
         assert_eq!(on(file, &mut to), answer(numbers), "{}", shown(file));
     }
@@ -85,10 +85,10 @@ fn shown(file: &[u8]) -> String {
     file[..file.len().min(60)].escape_ascii().to_string()
 }
 
-/// Bare and quoted fields of content 4,096 and 4,097, with all that may follow them.
+/// Bare and quoted fields of content at the limit and a byte over it, with all that may follow them.
 fn about_the_limit() -> Vec<Vec<u8>> {
     let mut files = Vec::new();
-    for content in [4_096, 4_097] {
+    for content in [CONTENT_LIMIT, CONTENT_LIMIT + 1] {
         let text = "a".repeat(content);
         let pairs = "\"\"".repeat(content);
         for field in [

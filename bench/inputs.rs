@@ -1,5 +1,7 @@
 //! The timed files: the same bytes at each run, whole rows, as many as fit in 16 MiB.
 
+use crate::ordinary::CONTENT_LIMIT;
+
 pub const LIMIT: usize = 16_777_216;
 
 /// A timed file: its name in the table, how it is made, and its refusal with line, column and byte.
@@ -151,8 +153,8 @@ fn remark_row(dice: &mut Dice, words: usize) -> String {
     format!("{number},{name},{position},\"{remark}\"\r\n")
 }
 
-/// One field of nothing but quotes: a content of 1 to 4,096 of them, each written twice.
+/// One field of nothing but quotes: a content of 1 to as many as may be, each written twice.
 fn quotes_row(dice: &mut Dice) -> String {
-    let content = 1 + dice.below(4_096);
+    let content = 1 + dice.below(CONTENT_LIMIT);
     format!("\"{}\"\r\n", "\"\"".repeat(content))
 }

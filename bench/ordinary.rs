@@ -2,7 +2,7 @@
 //! found when a refusal needs them.
 
 const FILE_LIMIT: usize = 16_777_216;
-const CONTENT_LIMIT: usize = 4_096;
+pub const CONTENT_LIMIT: usize = 65_535;
 
 /// The eight numbers of an answer.
 #[derive(Clone, Copy, Debug, Default, PartialEq, Eq)]

@@ -68,7 +68,7 @@ extern "C" {
 #define SV_CR_WITHOUT_LF 6            /* outside quotes: the CR */
 #define SV_LF_WITHOUT_CR 7            /* outside quotes, not allowed: that LF */
 #define SV_QUOTED_FIELD_OPEN 8        /* at the end of the file: its opening quote */
-#define SV_LONG_CONTENT 9             /* of a field, over 4,096 bytes: the field's first byte, a quote or
+#define SV_LONG_CONTENT 9             /* of a field, over 65,535 bytes: the field's first byte, a quote or
                                          a blank included */
 #define SV_UNEQUAL_RECORD 10          /* another number of fields than the first has: the first byte of
                                          its line break, or the file's length */

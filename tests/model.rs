@@ -16,7 +16,7 @@ pub mod writer;
 pub const FILE_LIMIT: usize = 16_777_216;
 
 /// A field's content has at most this many bytes.
-pub const CONTENT_LIMIT: usize = 4_096;
+pub const CONTENT_LIMIT: usize = 65_535;
 
 pub const QUOTE: u8 = 0x22;
 pub const BLANK: u8 = 0x20;

@@ -1,10 +1,10 @@
-//! Contents of 4,096 and 4,097 bytes in every form, where they meet every other fault.
+//! Contents at their limit and a byte over it in every form, where they meet every other fault.
 
 use crate::model::{BLANK, CONTENT_LIMIT, QUOTE};
 use crate::random::Random;
-use crate::random_files::random_pieces;
+use crate::random_files::{all_dialects, random_pieces};
 use crate::rooms::usual;
-use crate::wire::{Recipe, Wire};
+use crate::wire::{length_of, Recipe, Wire};
 use std::io::{self, Write};
 
 pub const DIALECTS: [(u8, u8); 6] = [
@@ -16,6 +16,9 @@ pub const DIALECTS: [(u8, u8); 6] = [
     (b'|', 15),
 ];
 
+/// A length far over the limit.
+pub const FAR_OVER: usize = 70_000;
+
 /// What stands before the field; `,` is the dialect's delimiter here and below.
 pub const BEFORE: [&str; 3] = ["", "x,y\r\n", "x\r\n"];
 
@@ -26,27 +29,50 @@ pub const BEHIND: [&str; 15] = [
 ];
 
 pub fn send<W: Write>(wire: &mut Wire<W>) -> io::Result<()> {
-    wire.section("contents of 4,096 and 4,097 bytes")?;
-    let mut random = Random::from_seed(4096);
+    let mut random = Random::from_seed(65_535);
+    wire.section("contents at their limit and a byte over it")?;
     for dialect in DIALECTS {
-        let own = |part: &str| with_delimiter(part.as_bytes(), dialect.0);
         for length in [CONTENT_LIMIT, CONTENT_LIMIT + 1] {
             for field in fields(length) {
                 for before in BEFORE {
                     for behind in BEHIND {
-                        let mut recipe = vec![(own(before), 1)];
-                        recipe.extend(field.clone());
-                        recipe.push((own(behind), 1));
+                        let recipe = between(before, &field, behind, dialect.0);
                         send_one(wire, &mut random, dialect, &recipe)?;
                     }
                 }
             }
         }
         let long = vec![(vec![b'a'], CONTENT_LIMIT + 1)];
-        let two = [long.clone(), vec![(own(","), 1)], long].concat();
+        let two = [long.clone(), vec![(vec![dialect.0], 1)], long].concat();
         send_one(wire, &mut random, dialect, &two)?;
+        // More blanks than a content may have, which are dropped, or belong to it.
+        let blanks = vec![(b"a".to_vec(), 1), (vec![BLANK], FAR_OVER)];
+        for behind in BEHIND {
+            let recipe = between("", &blanks, behind, dialect.0);
+            send_one(wire, &mut random, dialect, &recipe)?;
+        }
+    }
+    wire.section("contents at their limit and a byte over it, in 64 dialects")?;
+    for (number, dialect) in all_dialects().enumerate() {
+        for length in [CONTENT_LIMIT, CONTENT_LIMIT + 1] {
+            for (turn, field) in fields(length).iter().enumerate() {
+                let before = BEFORE[(number + turn) % BEFORE.len()];
+                let behind = BEHIND[(number + length + turn) % BEHIND.len()];
+                let recipe = between(before, field, behind, dialect.0);
+                send_one(wire, &mut random, dialect, &recipe)?;
+            }
+        }
     }
     Ok(())
+}
+
+/// A field with what stands before and behind it, in a dialect of this delimiter.
+pub fn between(before: &str, field: &Recipe, behind: &str, delimiter: u8) -> Recipe {
+    let own = |part: &str| (with_delimiter(part.as_bytes(), delimiter), 1);
+    let mut recipe = vec![own(before)];
+    recipe.extend(field.clone());
+    recipe.push(own(behind));
+    recipe
 }
 
 fn send_one<W: Write>(
@@ -55,7 +81,7 @@ fn send_one<W: Write>(
     dialect: (u8, u8),
     recipe: &Recipe,
 ) -> io::Result<()> {
-    let length: usize = recipe.iter().map(|(part, times)| part.len() * times).sum();
+    let length = length_of(recipe);
     // The last three bytes come one by one: faults at the field's end are found there.
     let mut pieces = random_pieces(random, length - 3);
     pieces.extend([1, 1, 1]);

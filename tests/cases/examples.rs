@@ -59,8 +59,8 @@ const FILES: [(&[u8], u8, Says); 20] = [
     (b"a,b\r\nc", STRICT, Says::No(10, 2, 2, 6)),
     (b" a , \"b\" ", STRICT, Says::No(4, 1, 6, 5)),
     (b" a , \"b\" ", BLANKS, Says::Yes(1, 2, 2, 2)),
-    (&[b'a'; 4096], STRICT, Says::Yes(1, 1, 4096, 0)),
-    (&[b'a'; 4097], STRICT, Says::No(9, 1, 1, 0)),
+    (&[b'a'; 65_535], STRICT, Says::Yes(1, 1, 65_535, 0)),
+    (&[b'a'; 65_536], STRICT, Says::No(9, 1, 1, 0)),
 ];
 
 pub fn send<W: Write>(wire: &mut Wire<W>) -> io::Result<()> {

@@ -11,14 +11,20 @@ const LF: (u8, u8) = (b',', 1);
 const BLANKS: (u8, u8) = (b';', 2);
 const UNKNOWN: (u8, u8) = (b'a', 16);
 
+/// Lines of this length, their breaks included, make up a file of the greatest length.
+pub const LINE: usize = 8_192;
+
+pub fn line() -> Vec<u8> {
+    [vec![b'a'; LINE - 2], b"\r\n".to_vec()].concat()
+}
+
 pub fn send<W: Write>(wire: &mut Wire<W>) -> io::Result<()> {
     wire.section("files of 16,777,216 and 16,777,217 bytes")?;
     let full = FILE_LIMIT;
     // As many fields as there can be, as many records, and as much text.
     send_one(wire, STRICT, &[(b",", full)], &[1])?;
     send_one(wire, LF, &[(b"\n", full)], &[1])?;
-    let line = [vec![b'a'; 4_094], b"\r\n".to_vec()].concat();
-    send_one(wire, STRICT, &[(&line, full / line.len())], &[])?;
+    send_one(wire, STRICT, &[(&line(), full / LINE)], &[])?;
     // The greatest column, the greatest line, and an opening quote far behind.
     send_one(wire, STRICT, &[(b",", full - 1), (b"\x01", 1)], &[])?;
     send_one(wire, LF, &[(b"\n", full - 1), (b"\r", 1)], &[1, 3])?;

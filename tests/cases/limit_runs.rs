@@ -1,7 +1,7 @@
 //! Files whose last run crosses the size limit.
 
-use crate::file_limit::rooms;
-use crate::model::{CONTENT_LIMIT, FILE_LIMIT};
+use crate::file_limit::{line, rooms, LINE};
+use crate::model::FILE_LIMIT;
 use crate::wire::{Recipe, Wire};
 use std::io::{self, Write};
 
@@ -13,10 +13,9 @@ const BEYOND: usize = 150;
 
 pub fn send<W: Write>(wire: &mut Wire<W>) -> io::Result<()> {
     wire.section("runs across the file limit")?;
-    let line = [vec![b'a'; CONTENT_LIMIT - 2], b"\r\n".to_vec()].concat();
-    let lines = (line, FILE_LIMIT / CONTENT_LIMIT - 1);
-    // The last 4,096 bytes below the limit and those behind it are rows, text, quoted text, pairs
-    // of quotes, quoted line feeds or blanks.
+    let lines = (line(), FILE_LIMIT / LINE - 1);
+    // The last bytes below the limit, as many as a line has, and those behind it are rows, text,
+    // quoted text, pairs of quotes, quoted line feeds or blanks.
     send_one(wire, STRICT, &lines, b"", b"abcde\r\n")?;
     send_one(wire, STRICT, &lines, b"", b"a")?;
     send_one(wire, STRICT, &lines, b"\"", b"a")?;

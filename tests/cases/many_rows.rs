@@ -8,7 +8,7 @@ use crate::random_files::{all_dialects, random_pieces};
 use crate::rooms::around;
 use crate::sessions::Manner;
 use crate::stream_long;
-use crate::wire::{Recipe, Wire};
+use crate::wire::{length_of, Recipe, Wire};
 use std::io::{self, Write};
 
 /// Where in a block the other row begins.
@@ -63,8 +63,12 @@ pub fn send<W: Write>(wire: &mut Wire<W>) -> io::Result<()> {
     let mut random = Random::from_seed(64);
     wire.section("many plain rows with another among them, in 64 dialects")?;
     for_each_other(&mut |dialect, trial| send_trial(wire, &mut random, dialect, trial))?;
-    wire.section("many plain rows with a field of 4,095 to 4,097 bytes among them")?;
-    for_each_long_field(&mut |dialect, trial| send_trial(wire, &mut random, dialect, trial))
+    wire.section("many plain rows with a field around the content limit among them")?;
+    let mut turn = 0;
+    for_each_long_field(&mut |dialect, trial| {
+        turn += 1;
+        send_cut(wire, &mut random, dialect, trial, turn % CUTS)
+    })
 }
 
 /// The same files by the stream.
@@ -72,7 +76,7 @@ pub fn send_streams<W: Write>(wire: &mut Wire<W>) -> io::Result<()> {
     let mut random = Random::from_seed(65);
     wire.section("streams of many plain rows with another among them, in 64 dialects")?;
     for_each_other(&mut |dialect, trial| send_stream(wire, &mut random, dialect, trial))?;
-    wire.section("streams of many plain rows with a field of 4,095 to 4,097 bytes")?;
+    wire.section("streams of many plain rows with a field around the content limit")?;
     for_each_long_field(&mut |dialect, trial| send_stream(wire, &mut random, dialect, trial))
 }
 
@@ -191,16 +195,25 @@ impl Rows {
     }
 }
 
-fn length_of(recipe: &Recipe) -> usize {
-    recipe.iter().map(|(part, times)| part.len() * times).sum()
-}
-
 /// A file at once, cut within the other row and one byte behind it, and in a few pieces.
 fn send_trial<W: Write>(
     wire: &mut Wire<W>,
     random: &mut Random,
     dialect: (u8, u8),
     trial: &Trial,
+) -> io::Result<()> {
+    (0..CUTS).try_for_each(|cut| send_cut(wire, random, dialect, trial, cut))
+}
+
+const CUTS: usize = 3;
+
+/// A file in the first, the second or the third of these ways.
+fn send_cut<W: Write>(
+    wire: &mut Wire<W>,
+    random: &mut Random,
+    dialect: (u8, u8),
+    trial: &Trial,
+    way: usize,
 ) -> io::Result<()> {
     let Trial {
         begins,
@@ -209,12 +222,13 @@ fn send_trial<W: Write>(
         ..
     } = *trial;
     let cut = begins + random.below(ends - begins);
-    let cuts = [vec![length], vec![cut, ends + 1 - cut, length - ends - 1]];
-    let turn = random.below(70);
-    for pieces in cuts.into_iter().chain([random_pieces(random, length)]) {
-        wire.long(dialect, &trial.recipe, &pieces, around(length, turn))?;
-    }
-    Ok(())
+    let pieces = match way {
+        0 => vec![length],
+        1 => vec![cut, ends + 1 - cut, length - ends - 1],
+        _ => random_pieces(random, length),
+    };
+    let rooms = around(length, random.below(70));
+    wire.long(dialect, &trial.recipe, &pieces, rooms)
 }
 
 fn send_stream<W: Write>(

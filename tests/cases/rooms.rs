@@ -83,7 +83,7 @@ pub fn around(length: usize, turn: usize) -> impl Fn(&Answer) -> Vec<Room> {
 }
 
 /// The driver has no more room than this.
-const MOST_ROOM: usize = FILE_LIMIT + 16_384;
+const MOST_ROOM: usize = FILE_LIMIT + 131_072;
 
 /// Room in which a refused write of this table could do harm: no form of it is longer, unless that
 /// is more than the driver has.

@@ -5,8 +5,8 @@
 //! every session comes to its end.
 
 use crate::model::reader::Room;
-use crate::model::refusal;
 use crate::model::stream::{Given, Plan, Stream};
+use crate::model::{refusal, CONTENT_LIMIT};
 use crate::random::Random;
 
 /// A call: how many bytes it offers, or none if it closes; what it is lent and what it gives.
@@ -34,7 +34,14 @@ pub const TINY: &[usize] = &[0, 1, 2, 3];
 pub const ONE: &[usize] = &[1];
 pub const FEW: &[usize] = &[0, 1, 7, 8, 9, 15, 16, 17];
 pub const BLOCK: &[usize] = &[1, 31, 32, 33, 62, 63, 64, 65, 66, 127, 128, 129];
-pub const LIMIT: &[usize] = &[1, 4_094, 4_095, 4_096, 4_097, 4_098];
+pub const LIMIT: &[usize] = &[
+    1,
+    CONTENT_LIMIT - 2,
+    CONTENT_LIMIT - 1,
+    CONTENT_LIMIT,
+    CONTENT_LIMIT + 1,
+    CONTENT_LIMIT + 2,
+];
 
 impl Manner {
     pub fn random(random: &mut Random) -> Manner {
@@ -83,10 +90,14 @@ pub fn in_two(plan: &Plan, cut: usize, room: Room, turn: usize) -> Session {
     caller.finish()
 }
 
-/// The file in pieces and with rooms of this manner, and calls behind the end.
-pub fn in_manner(plan: &Plan, manner: Manner, random: &mut Random) -> Session {
+/// The file up to a place at once, few fields or none, and from there on in pieces and with rooms of
+/// this manner; and calls behind the end.
+pub fn in_manner(plan: &Plan, place: usize, manner: Manner, random: &mut Random) -> Session {
     let mut caller = Caller::of(plan);
     let most = plan.length() + 2;
+    if place > 0 {
+        caller.feed(place, AMPLE_FOR_FEW);
+    }
     while caller.has_more() {
         let room = manner.room(random, most);
         let offered = random.pick(manner.pieces).min(most_offered(room));
@@ -142,6 +153,12 @@ pub const NONE: Room = Room {
     text: 0,
     ends: 0,
     rows: 0,
+};
+
+const AMPLE_FOR_FEW: Room = Room {
+    text: CONTENT_LIMIT + 64,
+    ends: 8,
+    rows: 8,
 };
 
 fn at_least_one(room: Room) -> Room {

@@ -1,8 +1,9 @@
 //! Streams of files at the size limit and beyond it.
 
+use crate::file_limit::{line, LINE};
 use crate::model::reader::Room;
 use crate::model::stream::Plan;
-use crate::model::FILE_LIMIT;
+use crate::model::{CONTENT_LIMIT, FILE_LIMIT};
 use crate::sessions::by_way_of;
 use crate::wire::{file_of, Recipe, Wire};
 use std::io::{self, Write};
@@ -28,7 +29,7 @@ const LONG: Room = Room {
 /// Up to where it is fed, an empty piece at the limit among them.
 const PLACES: [usize; 7] = [
     63,
-    4_160,
+    CONTENT_LIMIT + 64,
     9_000_000,
     FILE_LIMIT - 1,
     FILE_LIMIT,
@@ -39,8 +40,8 @@ const PLACES: [usize; 7] = [
 pub fn send<W: Write>(wire: &mut Wire<W>) -> io::Result<()> {
     wire.section("streams of 16,777,216 and 16,777,217 bytes")?;
     let full = FILE_LIMIT;
-    let line = [vec![b'a'; 4_094], b"\r\n".to_vec()].concat();
-    let lines = full / line.len() - 1;
+    let line = line();
+    let lines = full / LINE - 1;
     // As many fields as there can be, as many records, and as much text; then a byte more.
     send_one(wire, STRICT, MANY, &[(b",", full)], 0)?;
     send_one(wire, LF, MANY, &[(b"\n", full)], 0)?;
@@ -57,8 +58,9 @@ pub fn send<W: Write>(wire: &mut Wire<W>) -> io::Result<()> {
         (b"a  ", b"d"),
         (b"  \"", b"\""),
     ] {
-        let mut parts = vec![(&line[..], lines), (b"\"\"\r\n", 1_023)];
-        parts.push((b"x", 4_096 - 4 * 1_023 - last.len()));
+        let quotes = b"\"\"\r\n";
+        let mut parts = vec![(&line[..], lines), (quotes, LINE / quotes.len() - 1)];
+        parts.push((b"x", quotes.len() - last.len()));
         parts.extend([(last, 1), (beyond, 1), (b"a\r\n", 2)]);
         let is_faulty = last.ends_with(b"\"");
         send_one(wire, LAX, LONG, &parts, if is_faulty { 4 } else { 2 })?;
@@ -66,7 +68,7 @@ pub fn send<W: Write>(wire: &mut Wire<W>) -> io::Result<()> {
     // A refusal that comes before that stays; one by the byte past the limit itself does not count.
     send_one(wire, STRICT, LONG, &[(b"\"\"a", 1), (b"a", full)], 5)?;
     send_one(wire, STRICT, LONG, &[(b"a", full), (b",", 1)], 2)?;
-    // Blanks that are held, as many as there can be, of which 4,095 come out.
+    // Blanks that are held, as many as there can be; those within the content limit come out.
     let held = [(&b"a"[..], 1), (b" ", full - 2), (b"a", 1)];
     send_one(wire, BLANKS, LONG, &held, 9)
 }

@@ -13,6 +13,9 @@ const STATES: usize = 20_000;
 const NUMBERED_STATES: usize = 100_000;
 const UNRULY: usize = 20_000;
 
+/// Which number of a state counts the blanks held.
+const HELD: usize = 19;
+
 pub fn send<W: Write>(wire: &mut Wire<W>) -> io::Result<()> {
     let mut random = Random::from_seed(18);
     wire.section("stream states put together by hand")?;
@@ -53,8 +56,12 @@ fn some_room(random: &mut Random) -> Room {
 fn send_numbered<W: Write>(wire: &mut Wire<W>, random: &mut Random) -> io::Result<()> {
     let mut numbers: Vec<u32> = state_bytes(random).iter().map(|&b| b.into()).collect();
     numbers.extend((0..16).map(|_| counter(random)));
-    // Most often some of the blanks held are out already, and the stream is not closed.
-    let held = numbers[19];
+    // One in 16 may hold many blanks, for which the driver needs much room. Most often some of those
+    // held are out already, and the stream is not closed.
+    if !random.one_in(16) {
+        numbers[HELD] = random.below(300) as u32;
+    }
+    let held = numbers[HELD];
     let some = random.next() as u32 % held.max(1);
     let any = counter(random);
     numbers.push(random.pick(&[0, some, some, held, any]));

@@ -393,6 +393,10 @@ impl<W: Write> Wire<W> {
     }
 }
 
+pub fn length_of(recipe: &Recipe) -> usize {
+    recipe.iter().map(|(part, times)| part.len() * times).sum()
+}
+
 pub fn file_of(recipe: &Recipe) -> Vec<u8> {
     let parts = recipe.iter().map(|(part, times)| part.repeat(*times));
     parts.collect::<Vec<_>>().concat()

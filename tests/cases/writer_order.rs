@@ -1,5 +1,6 @@
 //! The writer's refusals, alone and together, for the order 1, 14, 3, 9, 10, 2, 15.
 
+use crate::file_limit::LINE;
 use crate::model::table::Table;
 use crate::model::writer::{FULL, PLAIN};
 use crate::model::{CONTENT_LIMIT, FILE_LIMIT};
@@ -19,7 +20,7 @@ pub fn send<W: Write>(wire: &mut Wire<W>) -> io::Result<()> {
             send_combination(wire, faults, late)?;
         }
     }
-    wire.section("contents of 4,096 and 4,097 bytes, written both ways")?;
+    wire.section("contents at their limit and a byte over it, written both ways")?;
     for byte in *b"a,\"\r\n " {
         send_contents(wire, byte)?;
     }
@@ -101,14 +102,14 @@ fn unbalance(records: &mut Records, late: bool) {
     records[record].push(Vec::new());
 }
 
-/// Tables whose plain form has exactly the limit's length, one byte more, or far more for the
+/// Tables whose plain form has exactly the limit's length, one byte more, or some more for the
 /// doubled quotes; then too long ones with another fault beside, and a malformed one.
 fn big_tables() -> Vec<Table> {
     let line = |length: usize| vec![vec![b'a'; length]];
-    let exact = vec![line(4_094); FILE_LIMIT / 4_096];
+    let exact = vec![line(LINE - 2); FILE_LIMIT / LINE];
     let mut over = exact.clone();
-    over[0] = line(4_095);
-    let quotes = vec![vec![vec![b'"'; CONTENT_LIMIT]]; 2_048];
+    over[0] = line(LINE - 1);
+    let quotes = vec![vec![vec![b'"'; CONTENT_LIMIT]]; FILE_LIMIT / CONTENT_LIMIT / 2];
     let mut tables: Vec<Table> = [&exact, &over, &quotes].map(|r| Table::of(r)).into();
     for fault in FAULTS {
         let mut both = over.clone();

@@ -13,8 +13,8 @@ static uint32_t next_random(uint64_t *seed)
 /* A number at the edge of a counter, or any. */
 static uint32_t word(uint64_t *seed)
 {
-    static const uint32_t edges[] = {0,        1,          4095,       4096,
-                                     4097,     16777215,   16777216,   16777217,
+    static const uint32_t edges[] = {0,        1,          65534,      65535,
+                                     65536,    16777215,   16777216,   16777217,
                                      16777218, 0x7FFFFFFF, 0xFFFFFFFE, 0xFFFFFFFF};
     uint32_t chosen = next_random(seed) >> 16;
     uint32_t any = next_random(seed);

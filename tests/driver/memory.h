@@ -7,8 +7,9 @@
 #include <stdint.h>
 
 /* No list or buffer has more entries than this: a file of the greatest length, and as much again as
-   quotes add to a table whose plain form has it (cases/rooms.rs, MOST_ROOM). */
-enum { MOST = 16777216 + 16384 };
+   quotes add to a table whose plain form has it (cases/rooms.rs, MOST_ROOM), or a content over its
+   limit to the text of such a table (cases/writer_order.rs). */
+enum { MOST = 16777216 + 131072 };
 
 /* What the library only reads: a list of bytes or of 32-bit numbers. Its last entry stands before a
    page that nobody may touch, so a read behind it crashes. */

@@ -10,16 +10,17 @@
 #include <stdio.h>
 #include <string.h>
 
-enum { MOST_FED = 256, CONTENT_LIMIT = 4096, MOST_LENT = CONTENT_LIMIT + MOST_FED };
+enum { MOST_FED = 256, CONTENT_LIMIT = 65535, MOST_LENT = CONTENT_LIMIT + MOST_FED };
 
 static struct list fed_first, fed_then, part;
 static sv_stream state;
 static struct lent_table lent, lent_again;
 
-/* What came out in all calls, of one buffer. No byte puts out more than MOST_LENT entries. */
+/* What came out in all calls, of one buffer: of text no more than a state may hold back and each byte
+   may add, and of ends and rows one for each byte. */
 struct joined {
     size_t size;
-    uint8_t bytes[MOST_LENT * MOST_FED * sizeof(uint32_t)];
+    uint8_t bytes[MOST_LENT];
 };
 
 /* A way of feeding, so far. */
@@ -141,6 +142,10 @@ static sv_streamed feed_twice(sv_stream to, size_t from, size_t length, struct r
 static void join(struct joined *joined, const struct lent *buffer, size_t length)
 {
     size_t size = length * buffer->width;
+    if (size > sizeof joined->bytes - joined->size) {
+        disagree("a stream puts out more %s than it was fed and may hold", buffer->name);
+        return;
+    }
     memcpy(joined->bytes + joined->size, lent_start(buffer), size);
     joined->size += size;
 }
@@ -151,11 +156,12 @@ static void begin(struct way *way)
     way->taken = way->text.size = way->ends.size = way->rows.size = 0;
 }
 
-/* Feeds with ample room: a field's content comes out up to its limit, of which a state may hold all
-   back, and each byte may add itself, an end and a row. */
+/* Feeds with ample room: the blanks that a state holds back may come out, but no more than the content
+   limit, and each byte may add itself, an end and a row. */
 static void feed_amply(struct way *way, size_t from, size_t length)
 {
-    struct room room = {CONTENT_LIMIT + length, length, length};
+    uint32_t held = way->state.check.field.held;
+    struct room room = {(held < CONTENT_LIMIT ? held : CONTENT_LIMIT) + length, length, length};
     put_part(from, length);
     sv_streamed given = call_stream_feed(way->state, list_start(&part), length, &lent, room);
     if (!is_within(given, length, room, "sv_stream_feed"))

@@ -42,17 +42,15 @@ fn lenient_files() {
 }
 
 fn long_contents() {
-    let mut fits = io::buffer();
-    fill(&mut fits);
-    strict(b"4,096 times a", &fits);
     let mut long = io::large_buffer();
     fill(&mut long);
-    one_too_long(&long);
+    around_limit(&long);
 }
 
-fn one_too_long(file: &[u8]) {
-    let n = io::count(4097, file);
-    strict(b"4,097 times a", &file[..n]);
+fn around_limit(long: &[u8]) {
+    let n = io::count(65535, long);
+    strict(b"65,535 times a", &long[..n]);
+    strict(b"65,536 times a", long);
 }
 
 fn fill(buffer: &mut [u8]) {
@@ -64,7 +62,7 @@ fn fill(buffer: &mut [u8]) {
 }
 
 fn strict(name: &[u8], file: &[u8]) {
-    let mut text = io::buffer();
+    let mut text = io::large_buffer();
     let mut ends: [u32; 8] = [0; 8];
     let mut rows: [u32; 8] = [0; 8];
     let answer = reader::read_strict(file, &mut text, &mut ends, &mut rows);

@@ -42,7 +42,7 @@ EqualRows d t = T (d .allows ragged || not (isRagged t))
 
 -- The content limit: a field's content has at most so many bytes.
 abbrev pub contentLimit : ℕ
-contentLimit = 4096
+contentLimit = 65535
 
 abbrev pub Fits : Content → Type 0
 Fits c = length c ≤ contentLimit

@@ -3,7 +3,7 @@
 // specs/Answer.antt gives the rules' number and values for each answer.
 
 // The house limits, in bytes: a field's content, and a file.
-pub const CONTENT_LIMIT: u32 = 4096;
+pub const CONTENT_LIMIT: u32 = 65535;
 
 pub const FILE_LIMIT: u32 = 16777216;
 
