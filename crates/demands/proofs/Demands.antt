@@ -9,12 +9,12 @@ use Rattle.format.specs.declared.Answer.{Answer}
 use Rattle.format.specs.declared.Written.{Written, TheVariants.Whole}
 use Rattle.format.specs.Table.{Bytes, Table}
 use Rattle.format.specs.Dialect.{strict}
-use Rattle.format.specs.House.{fileLimit}
+use Rattle.format.specs.House.{file_limit}
 use Rattle.format.specs.Memory.{WellFormed, table_of}
 use Rattle.format.specs.WrittenForms.{plain, CanHold}
 use Rattle.format.specs.Filling.{over}
 use Rattle.format.specs.Reading.{Accepted}
-use Rattle.format.specs.Answer.{writerNumbers}
+use Rattle.format.specs.Answer.{writer_numbers}
 use Rattle.format.proofs.Demand3.{plain-is-shortest-ended, strict-tally, one-strict-tally, strict-ended, strict-length}
 use Rattle.format.proofs.Dialects.{NoLarger}
 use Rattle.format.proofs.Leniencies.{report-allowed, report-most, by-report}
@@ -25,44 +25,44 @@ use Rattle.reader.specs.Read.{ReadOutcome}
 use Rattle.reader.proofs.Calls as reads
 use Rattle.tables.specs.Shown.{Shown}
 use Rattle.tables.proofs.Showing.{one-shown}
-use Rattle.writer.specs.Write.{fileIn, accepted, FileOutcome, TableOutcome, WriteOutcome}
+use Rattle.writer.specs.Write.{file_in, accepted, FileOutcome, TableOutcome, WriteOutcome}
 use Rattle.writer.proofs.Calls as writes
 use Rattle.demands.specs.Demands.{Slices, RoomFor, Read, Same, Demand1, Demand2, Demand3, OfficeAndAuditor, Demands}
 use Rattle.demands.proofs.Feeding.{feeds-stand}
 use Rattle.demands.proofs.Reader.{slices, is-outcome, reads_as, read_as, took, same_end, left_alone, why-refused}
 
-demand-1 : Demand1
-demand-1 =
+demand_1 : Demand1
+demand_1 =
     record {
-      bad-file = λ {lent = lent} c h. (is-outcome c lent (ReadOutcome.refused h)).0;
+      bad_file = λ {lent = lent} c h. (is-outcome c lent (ReadOutcome.refused h)).0;
       no_other = λ c n. why-refused c.promise n;
-      missing-field = λ s l. one-shown s (Shown.absent l);
-      refused-read = λ c n. left_alone c n;
-      refused-write = λ w n. writes.refused-same w.promise n;
+      missing_field = λ s l. one-shown s (Shown.absent l);
+      refused_read = λ c n. left_alone c n;
+      refused_write = λ w n. writes.refused-same w.promise n;
     }
 
 abbrev number : Answer → ℕ
 number a = a.refusal
 
-demand-2 : Demand2
-demand-2 =
+demand_2 : Demand2
+demand_2 =
     record {
-      strict-reader = λ {f = f} {t = t} c k. (
+      strict_reader = λ {f = f} {t = t} c k. (
         λ p. let a = read_as c p in ((strict-is-rfc f t).0 a.reading, a.short),
         λ q. reads_as c (record { valid = (tt, omega arith); short = q.1; reading = (strict-is-rfc f t).1 q.0 }) k,
       );
-      lax-reader = λ c k. (λ p. read_as c p, λ a. reads_as c a k);
-      some-table = λ c z. let x = took c z in (x.table, c.answer.totals.report, x.came);
-      enough-room = λ a h i j. reads.room-enough a h (omega arith) j;
-      enough-to-write = λ w r. writes.room-enough w.promise r;
-      one-reading = λ d p q. theorems.one-reading d _ _ _ _ _ p q;
-      reads-back = λ {m = m} {mode = mode} {out = out} w e c k.
-          let o = subst (λ (a : Written). WriteOutcome m.text m.ends m.rows mode out (writerNumbers a) w.left) e w.promise in
+      lax_reader = λ c k. (λ p. read_as c p, λ a. reads_as c a k);
+      some_table = λ c z. let x = took c z in (x.table, c.answer.totals.report, x.came);
+      enough_room = λ a h i j. reads.room-enough a h (omega arith) j;
+      enough_to_write = λ w r. writes.room-enough w.promise r;
+      one_reading = λ d p q. theorems.one_reading d _ _ _ _ _ p q;
+      reads_back = λ {m = m} {mode = mode} {out = out} w e c k.
+          let o = subst (λ (a : Written). WriteOutcome m.text m.ends m.rows mode out (writer_numbers a) w.left) e w.promise in
           let (x, y, z) = memory-back (writes.wrote o refl).formed in
-          (reads_as c (writes.reads-back o) k, slices x y z);
+          (reads_as c (writes.reads_back o) k, slices x y z);
       in_pieces = λ {b = b} {sum = sum} s x a. a.answers b sum _ (feeds-stand [] s.stands x);
-      check-is-read = λ c h.
-          elim (reads.check-is-read h c.promise) [
+      check_is_read = λ c h.
+          elim (reads.check_is_read h c.promise) [
             | inl e ↦ inl e
             | inr y ↦
                 let (t, r, n, e, k, q) = y in
@@ -74,36 +74,36 @@ demand-2 =
 -- the outcome of a plain write of a table that strict can hold, within the limit and with room
 plain-outcome :
     (t : Table) → CanHold strict t → {text : Bytes} {ends rows : List ℕ} {out : Bytes} → WellFormed text ends rows → table_of text ends rows ≡ t
-    → length (plain strict t) ≤ fileLimit → length (plain strict t) ≤ length out
+    → length (plain strict t) ≤ file_limit → length (plain strict t) ≤ length out
     → WriteOutcome text ends rows 0 out (accepted (length (plain strict t))) (over (plain strict t) out)
 plain-outcome t h {text} {ends} {rows} {out} w e l k =
-    WriteOutcome.well-formed (omega arith) w
+    WriteOutcome.well_formed (omega arith) w
     (subst
-    (λ (u : Table). TableOutcome text u (fileIn 0 u) out (accepted (length (plain strict t))) (over (plain strict t) out))
+    (λ (u : Table). TableOutcome text u (file_in 0 u) out (accepted (length (plain strict t))) (over (plain strict t) out))
     (sym e)
     (TableOutcome.holdable h (FileOutcome.whole l k)))
 
-demand-3 : (t : Table) → 1 ≤ length t → CanHold strict t → Demand3 t
-demand-3 t n h =
+demand_3 : (t : Table) → 1 ≤ length t → CanHold strict t → Demand3 t
+demand_3 t n h =
     let s = plain-is-shortest-ended t n h in
     record {
       reads = s.reads;
       ended = s.ended;
       others = s.others;
-      writer-gives-it = λ o w e l k. writes.one-outcome {a = o.answer} {b = Whole (length (plain strict t))} o.promise (plain-outcome t h w e l k);
+      writer_gives_it = λ o w e l k. writes.one-outcome {a = o.answer} {b = Whole (length (plain strict t))} o.promise (plain-outcome t h w e l k);
       tally = λ p. strict-tally n p;
-      one-tally = λ x y. one-strict-tally x y;
+      one_tally = λ x y. one-strict-tally x y;
       size = λ x. let (i, j) = strict-ended x in (strict-length x, i, j);
-      same-plain = λ p q. theorems.same-plain p q;
+      same_plain = λ p q. theorems.same_plain p q;
     }
 
 -- a table that is no larger has room where the other has
 room-too : {t u : Table} {lent : Slices} → RoomFor t lent → NoLarger u t → RoomFor u lent
 room-too k n =
     record {
-      for-text = omega (arith, k.for-text, n.text);
-      for-ends = omega (arith, k.for-ends, n.fields);
-      for-rows = omega (arith, k.for-rows, n.records);
+      for_text = omega (arith, k.for_text, n.text);
+      for_ends = omega (arith, k.for_ends, n.fields);
+      for_rows = omega (arith, k.for_rows, n.records);
     }
 
 -- accepted with nothing reported, and so by strict
@@ -114,8 +114,8 @@ unreported {sum} {f} c e t a k n =
     let b = subst (λ (s : ℕ). Accepted 0x2C sum f t s) n a in
     same_end c e t 0 (reads_as c b k) (reads_as e (theorems.office-auditor b) k)
 
-office-and-auditor : OfficeAndAuditor
-office-and-auditor =
+office_and_auditor : OfficeAndAuditor
+office_and_auditor =
     record {
       by_name = λ {b = b} {f = f} c z.
           let x = took c z in
@@ -124,8 +124,8 @@ office-and-auditor =
           let on : Accepted b n f x.table n =
           record { valid = (a.valid.0, report-most a.reading); short = a.short; reading = by-report a.reading } in
           (λ l h. report-allowed a.reading l h, λ e. same_end c e x.table n x.came (reads_as e on x.room));
-      nothing-reported = λ c e z n. let x = took c z in unreported c e x.table x.accepted x.room n;
-      strict-taken = λ {sum = sum} e c z h.
+      nothing_reported = λ c e z n. let x = took c z in unreported c e x.table x.accepted x.room n;
+      strict_taken = λ {sum = sum} e c z h.
           let x = took e z in
           let (u, n, a, y, same, size) = theorems.auditor-office sum h x.accepted in
           let k = room-too x.room size in
@@ -135,4 +135,4 @@ office-and-auditor =
     }
 
 pub demands : Demands
-demands = record { demand-1 = demand-1; demand-2 = demand-2; demand-3 = demand-3; office-and-auditor = office-and-auditor }
+demands = record { demand_1 = demand_1; demand_2 = demand_2; demand_3 = demand_3; office_and_auditor = office_and_auditor }

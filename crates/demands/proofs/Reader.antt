@@ -9,11 +9,11 @@ use Rattle.format.specs.Table.{Bytes, Table}
 use Rattle.format.specs.Memory.{table_of}
 use Rattle.format.specs.Place.{nowhere}
 use Rattle.format.specs.Reading.{Accepted, Refused}
-use Rattle.format.specs.Answer.{acceptedAs, refusedBy}
+use Rattle.format.specs.Answer.{accepted_as, refused_by}
 use Rattle.format.proofs.Memory.{table-back}
 use Rattle.reader.specs.Read.{NoRoom, ReadOutcome}
 use Rattle.reader.proofs.Calls.{one-outcome, not-refused, refused-same, used-text, used-ends, used-rows, read_table}
-use Rattle.demands.specs.Demands.{Slices, memoryOf, laid, RoomFor, Read, ReadAs, Same}
+use Rattle.demands.specs.Demands.{Slices, memory_of, laid, RoomFor, Read, ReadAs, Same}
 
 -- three slices are equal by their parts
 pub slices : {m n : Slices} → m.text ≡ n.text → m.ends ≡ n.ends → m.rows ≡ n.rows → m ≡ n
@@ -23,7 +23,7 @@ slices e g h i = record { text = e i; ends = g i; rows = h i }
 abbrev used : Answer → Slices → Table
 used a m = table_of (take a.totals.text m.text) (take a.totals.fields.0 m.ends) (take a.totals.records m.rows)
 
-used-is : (t : Table) (r : ℕ) (lent : Slices) → used (acceptedAs t r) (laid (memoryOf t) lent) ≡ t
+used-is : (t : Table) (r : ℕ) (lent : Slices) → used (accepted_as t r) (laid (memory_of t) lent) ≡ t
 used-is t r lent = rw (used-text t lent.text, used-ends t lent.ends, used-rows t lent.rows) (table-back t)
 
 -- what a read that is not refused comes to
@@ -41,7 +41,7 @@ module _ {b sum : ℕ} {f : Bytes} {lent : Slices} where
   is-outcome c m o = let (e, x, y, z) = one-outcome c.promise o in (e, slices x y z)
 
   pub reads_as : (c : Read b sum f lent) {t : Table} {r : ℕ} → Accepted b sum f t r → RoomFor t lent → ReadAs c t r
-  reads_as c {t} a k = is-outcome c (laid (memoryOf t) lent) (ReadOutcome.filled a k)
+  reads_as c {t} a k = is-outcome c (laid (memory_of t) lent) (ReadOutcome.filled a k)
 
   -- the three slices and the totals tell the table
   pub read_as : (c : Read b sum f lent) {t : Table} {r : ℕ} → ReadAs c t r → Accepted b sum f t r
@@ -54,7 +54,7 @@ module _ {b sum : ℕ} {f : Bytes} {lent : Slices} where
   pub took : (c : Read b sum f lent) → c.answer.refusal ≡ 0 → Took c
   took c z =
       let h = not-refused c.promise z in
-      let g : c.answer.totals.report ≡ h.report = ap (λ (a : Answer). a.totals.report) h.answer-is in
+      let g : c.answer.totals.report ≡ h.report = ap (λ (a : Answer). a.totals.report) h.answer_is in
       let a : Accepted b sum f h.table c.answer.totals.report = subst (λ (r : ℕ). Accepted b sum f h.table r) (sym g) h.accepted in
       record { table = h.table; came = reads_as c a h.room; accepted = a; room = h.room }
 
@@ -70,7 +70,7 @@ module _ {b sum : ℕ} {f text : Bytes} {ends rows : List ℕ} where
   pub why-refused :
       {a : Answer} {x : Bytes} {y z : List ℕ} → ReadOutcome b sum f text ends rows a x y z → (a.refusal ≡ 0 → ⊥)
       → Refused b sum f a.refusal a.place
-      ⊎ ((t : Table) × (r : ℕ) × Accepted b sum f t r × NoRoom t text ends rows a.refusal × (a ≡ refusedBy a.refusal nowhere))
+      ⊎ ((t : Table) × (r : ℕ) × Accepted b sum f t r × NoRoom t text ends rows a.refusal × (a ≡ refused_by a.refusal nowhere))
   why-refused (ReadOutcome.refused h) n = inl h
   why-refused (ReadOutcome.no_room {t} {r} h k) n = inr (t, r, h, k, refl)
   why-refused (ReadOutcome.filled h k) n = absurd (n refl)

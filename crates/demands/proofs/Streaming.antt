@@ -10,7 +10,7 @@ use Rattle.format.specs.declared.Answer.{Answer}
 use Rattle.format.specs.Table.{Bytes}
 use Rattle.format.specs.Place.{nowhere}
 use Rattle.format.specs.Filling.{over}
-use Rattle.format.specs.Answer.{refusedBy}
+use Rattle.format.specs.Answer.{refused_by}
 use Rattle.pieces.specs.Answers.{Answers}
 use Rattle.output.specs.declared.Stream.{Stream}
 use Rattle.output.specs.declared.Streamed.{Streamed}
@@ -20,8 +20,8 @@ use Rattle.output.specs.Promises.{Awaits, Stands, Into, Fed, roomOf}
 use Rattle.output.proofs.Bytewise.{streamed-over}
 use Rattle.output.proofs.Closing.{closed-over}
 use Rattle.output.proofs.Laws.{answer-is-check}
-use Rattle.output.proofs.Before.{before-fault, before-limit}
-use Rattle.output.proofs.Progress.{Stops, whole, ended, lacking, Within, goes_on, room-takes, stops-for, stays_within, short-stops, close-stays, close-ends, close-room}
+use Rattle.output.proofs.Before.{before_fault, before_limit}
+use Rattle.output.proofs.Progress.{Stops, whole, ended, lacking, Within, goes_on, room-takes, stops-for, stays_within, short-stops, close-stays, close_ends, close_room}
 use Rattle.output.proofs.Ending.{left-falls}
 use Rattle.output.proofs.Sessions as laws
 use Rattle.demands.specs.Streaming.{Session, begins, feeds, closes, Ended, Streaming}
@@ -35,7 +35,7 @@ state-over : (s : Stream) {a : Answer} {k : ℕ} → a ≡ answer_of s → k ≡
 state-over s p q (inl n) = (laws.refused_over s (λ z. n (ap (λ (x : Answer). x.refusal) p ∙ z)), p, q)
 state-over s p q (inr e) = ((laws.closed-over s (sym q ∙ e)).0, p, q)
 
-not-ended : (s : Stream) → Ended (refusedBy 0 nowhere) 0 → (is_over s ≡ true) × (refusedBy 0 nowhere ≡ answer_of s) × (0 ≡ closedBy s)
+not-ended : (s : Stream) → Ended (refused_by 0 nowhere) 0 → (is_over s ≡ true) × (refused_by 0 nowhere ≡ answer_of s) × (0 ≡ closedBy s)
 not-ended s (inl n) = absurd (n refl)
 not-ended s (inr e) = absurd (omega (arith, e))
 
@@ -60,11 +60,11 @@ module _ {text text' : Bytes} {ends rows ends' rows' : List ℕ} {s : Stream} {r
       Into c text ends rows r text' ends' rows' → c ≡ idle s → a ≡ answer_of s → k ≡ closedBy s
       → (r.taken ≡ 0) × (text' ≡ text) × (ends' ≡ ends) × (rows' ≡ rows) × (r.state ≡ s) × (r.answer ≡ a) × (r.closed ≡ k)
   idles w e p q = let i = subst (λ (x : Called). Into x text ends rows r text' ends' rows') e w in
-      (i.taken, i.text-is, i.ends_is, i.rows_is, i.state, i.answer ∙ sym p, i.closed ∙ sym q)
+      (i.taken, i.text_is, i.ends_is, i.rows_is, i.state, i.answer ∙ sym p, i.closed ∙ sym q)
 
 -- a stream that is over has ended
-ended_by : (s : Stream) {a : Answer} {k : ℕ} → a ≡ answer_of s → k ≡ closedBy s → is_over s ≡ true → Ended a k
-ended_by s {a} {k} p q o = by (laws.over-ended s o)
+ended-by : (s : Stream) {a : Answer} {k : ℕ} → a ≡ answer_of s → k ≡ closedBy s → is_over s ≡ true → Ended a k
+ended-by s {a} {k} p q o = by (laws.over-ended s o)
   where
     by : ((answer_of s).refusal ≡ 0 → ⊥) ⊎ (closedBy s ≡ 1) → Ended a k
     by (inl n) = inl (λ z. n (ap (λ (x : Answer). x.refusal) (sym p) ∙ z))
@@ -77,7 +77,7 @@ stopped {piece} {text} {ends = ends} {rows} {s = s} {r} w l z = by (stops-for pi
   where
     by : Stops piece (streamed s piece (roomOf text ends rows)) → Ended r.answer r.closed
     by (whole e) = let i = w.into.taken in absurd (omega arith)
-    by (ended o) = ended_by (streamed s piece (roomOf text ends rows)).state w.into.answer w.into.closed o
+    by (ended o) = ended-by (streamed s piece (roomOf text ends rows)).state w.into.answer w.into.closed o
     by (lacking e) = let i = w.into.short in absurd (omega arith)
 
 falling :
@@ -89,14 +89,14 @@ falling {x = x} {piece = piece} {text = text} {ends = ends} {rows} {s = s} {r = 
     by : (is_over s ≡ true) ⊎ Awaits s.check s.early (x ∷ piece) → Ended r.answer r.closed ⊎ (left_of r.state (drop r.taken (x ∷ piece)) < left_of s (x ∷ piece))
     by (inl o) =
         let e : (streamed s (x ∷ piece) (roomOf text ends rows)).state ≡ s = ap (λ (y : Called). y.state) (streamed-over s (roomOf text ends rows) (x ∷ piece) o) in
-        inl (ended_by (streamed s (x ∷ piece) (roomOf text ends rows)).state w.into.answer w.into.closed (subst (λ (y : Stream). is_over y ≡ true) (sym e) o))
+        inl (ended-by (streamed s (x ∷ piece) (roomOf text ends rows)).state w.into.answer w.into.closed (subst (λ (y : Stream). is_over y ≡ true) (sym e) o))
     by (inr a) = then_by (left-falls x piece s (roomOf text ends rows) a p q u)
       where
         then_by :
             (is_over (streamed s (x ∷ piece) (roomOf text ends rows)).state ≡ true)
             ⊎ (left_of (streamed s (x ∷ piece) (roomOf text ends rows)).state (drop (streamed s (x ∷ piece) (roomOf text ends rows)).taken (x ∷ piece)) < left_of s (x ∷ piece))
             → Ended r.answer r.closed ⊎ (left_of r.state (drop r.taken (x ∷ piece)) < left_of s (x ∷ piece))
-        then_by (inl o) = inl (ended_by (streamed s (x ∷ piece) (roomOf text ends rows)).state w.into.answer w.into.closed o)
+        then_by (inl o) = inl (ended-by (streamed s (x ∷ piece) (roomOf text ends rows)).state w.into.answer w.into.closed o)
         then_by (inr l) = inr (rw (w.into.state, w.into.taken) l)
 
 -- what a call puts out, in counts
@@ -104,7 +104,7 @@ counts :
     {c : Called} {text text' : Bytes} {ends rows ends' rows' : List ℕ} {r : Streamed} {piece : Bytes}
     → Into c text ends rows r text' ends' rows' → Within piece (roomOf text ends rows) c
     → (r.taken ≤ length piece) × (r.text ≤ length text) × (r.ends ≤ length ends) × (r.rows ≤ length rows)
-counts i w = rw (i.taken, i.text-count, i.ends-count, i.rows-count) (w.taken, w.text, w.ends, w.rows)
+counts i w = rw (i.taken, i.text_count, i.ends-count, i.rows-count) (w.taken, w.text, w.ends, w.rows)
 
 -- a call that puts nothing out leaves ends and rows
 leaves :
@@ -125,21 +125,21 @@ going :
     {x : ℕ} {piece text text' : Bytes} {ends rows ends' rows' : List ℕ} {s : Stream} {r : Streamed}
     → Fed s (x ∷ piece) text ends rows r text' ends' rows' → is_over s ≡ false → 1 ≤ length text → 1 ≤ length ends → 1 ≤ length rows
     → (1 ≤ r.taken) ⊎ ((1 ≤ r.text) × (r.state.early ≡ s.early + r.text))
-going {x} {piece} {text} {ends = ends} {rows} {s = s} w o p q u = rw (w.into.taken, w.into.text-count, w.into.state) (goes_on s x piece (roomOf text ends rows) o p q u)
+going {x} {piece} {text} {ends = ends} {rows} {s = s} w o p q u = rw (w.into.taken, w.into.text_count, w.into.state) (goes_on s x piece (roomOf text ends rows) o p q u)
 
 pub streaming : Streaming
 streaming =
     record {
       lent = λ {piece} {text} {ends = ends} {rows = rows} {s = s} w. counts w.into (stays_within piece s (roomOf text ends rows));
-      close-short = λ {ends} {rows} {s = s} w n.
+      close_short = λ {ends} {rows} {s = s} w n.
           let (o, e) = close-stays s (roomOf [] ends rows) (λ z. n (w.into.short ∙ z)) in
           let (x, y) = leaves w.into o in
           (x, y, w.into.state ∙ e);
-      close-ends = λ {ends} {rows} {s = s} w z.
-          ended_by (closed s (roomOf [] ends rows)).state w.into.answer w.into.closed (close-ends s (roomOf [] ends rows) (sym w.into.short ∙ z));
-      close-room = λ {ends} {rows} {s = s} w p q. w.into.short ∙ close-room s (roomOf [] ends rows) p q;
-      close-needs-none = λ {ends = ends} {rows = rows} h a e w.
-          let (z, o) = laws.close-needs-none (comes h).stands a e (roomOf [] ends rows) in
+      close_ends = λ {ends} {rows} {s = s} w z.
+          ended-by (closed s (roomOf [] ends rows)).state w.into.answer w.into.closed (close_ends s (roomOf [] ends rows) (sym w.into.short ∙ z));
+      close_room = λ {ends} {rows} {s = s} w p q. w.into.short ∙ close_room s (roomOf [] ends rows) p q;
+      close_needs_none = λ {ends = ends} {rows = rows} h a e w.
+          let (z, o) = laws.close_needs_none (comes h).stands a e (roomOf [] ends rows) in
           let (x, y) = leaves w.into o in
           (w.into.short ∙ z, x, y);
       joined = λ h e. let c = comes h in let v = c.over (inr e) in
@@ -148,18 +148,18 @@ streaming =
       refusal = λ {b} {sum} {f} h n. let c = comes h in let v = c.over (inl n) in
           let a = subst (Answers b sum f) (sym v.1) (answer-is-check c.stands v.0) in
           (laws.answers-refused a n, a);
-      after-feed = λ {piece = piece} {text = text} {ends = ends} {rows = rows} {s = s} h e w. let v = (comes h).over e in
+      after_feed = λ {piece = piece} {text = text} {ends = ends} {rows = rows} {s = s} h e w. let v = (comes h).over e in
           idles w.into (streamed-over s (roomOf text ends rows) piece v.0) v.1 v.2;
-      after-close = λ {ends = ends} {rows = rows} {s = s} h e w. let v = (comes h).over e in
+      after_close = λ {ends = ends} {rows = rows} {s = s} h e w. let v = (comes h).over e in
           let i = idles w.into (closed-over s (roomOf [] ends rows) v.0) v.1 v.2 in
           (i.2, i.3, i.4, i.5, i.6);
-      before-fault = λ h n v l r e q. let c = comes h in before-fault c.stands (c.over (inl n)).0 v l r e q;
-      before-limit = λ h n v l. let c = comes h in before-limit c.stands (c.over (inl n)).0 v l;
-      no-dialect = λ h n. laws.stands-invalid (comes h).stands n;
-      within-limit = λ h. laws.stands-contents (comes h).stands;
+      before_fault = λ h n v l r e q. let c = comes h in before_fault c.stands (c.over (inl n)).0 v l r e q;
+      before_limit = λ h n v l. let c = comes h in before_limit c.stands (c.over (inl n)).0 v l;
+      no_dialect = λ h n. laws.stands-invalid (comes h).stands n;
+      within_limit = λ h. laws.stands-contents (comes h).stands;
       takes = λ {x} {piece} {text} {ends = ends} {rows = rows} {s = s} w o f. subst (λ (n : ℕ). 1 ≤ n) (sym w.into.taken) (room-takes s x piece (roomOf text ends rows) o f);
       stops = stopped;
-      stops-short = shorter;
+      stops_short = shorter;
       goes_on = going;
       falls = falling;
     }

@@ -1,8 +1,8 @@
 // What C gets: structs of numbers, made of the answers to a write, a search and a show.
 ghost use Rattle.std.specs.Prelude.{◌≡◌, [], ◌∷◌, min};
-ghost use Rattle.format.specs.Answer.{writerNumbers, searchNumbers, partNumbers};
+ghost use Rattle.format.specs.Answer.{writer_numbers, search_numbers, part_numbers};
 ghost use Rattle.format.specs.Memory.{largest32};
-ghost use Rattle.face.specs.Face.{writtenFrom, columnFrom, partFrom};
+ghost use Rattle.face.specs.Face.{written_from, column_from, part_from};
 
 use format::{Column, FieldNumber, Found, Line, Part, TextIndex, Written};
 
@@ -50,7 +50,7 @@ pub fn at_most(n: usize) -> u32
 
 // The five numbers of an answer to a write.
 pub fn written(answer: Written) -> SvWritten
-    ensures { result ≡ writtenFrom (writerNumbers answer) }
+    ensures { result ≡ written_from (writer_numbers answer) }
 {
     match answer {
         Written::Whole(n) => outcome(0, 0, n),
@@ -66,7 +66,7 @@ pub fn written(answer: Written) -> SvWritten
 
 // Of these five, line and column are always 0.
 fn outcome(refusal: u32, byte: u32, length: u32) -> SvWritten
-    ensures { result ≡ writtenFrom (refusal ∷ 0 ∷ 0 ∷ byte ∷ length ∷ []) }
+    ensures { result ≡ written_from (refusal ∷ 0 ∷ 0 ∷ byte ∷ length ∷ []) }
 {
     SvWritten {
         refusal,
@@ -79,7 +79,7 @@ fn outcome(refusal: u32, byte: u32, length: u32) -> SvWritten
 
 // The two numbers of an answer to a search.
 pub fn found(answer: Found) -> SvColumn
-    ensures { result ≡ columnFrom (searchNumbers answer) }
+    ensures { result ≡ column_from (search_numbers answer) }
 {
     match answer {
         Found::At(k) => SvColumn {
@@ -103,7 +103,7 @@ pub fn found(answer: Found) -> SvColumn
 
 // The three numbers of a part.
 pub fn part(answer: Part) -> SvPart
-    ensures { result ≡ partFrom (partNumbers answer) }
+    ensures { result ≡ part_from (part_numbers answer) }
 {
     match answer {
         Part::Lies(start, length) => SvPart {

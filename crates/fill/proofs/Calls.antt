@@ -10,7 +10,7 @@ use lib.Seq.{sets, take-append_seam, drop-append_seam}
 use Rattle.format.specs.Table.{Bytes}
 use Rattle.format.specs.Dialect.{Dialect}
 use Rattle.fill.specs.declared.Head.{Head}
-use Rattle.fill.specs.Walk.{textAhead, endsAhead, rowsAhead, Grown, Wrote}
+use Rattle.fill.specs.Walk.{text_ahead, ends_ahead, rows_ahead, Grown, Wrote}
 
 module _ {A : Type 0} where
   same-front : (xs ys r s : List A) → xs ++ r ≡ ys ++ s → length xs ≡ length ys → (xs ≡ ys) × (r ≡ s)
@@ -22,18 +22,18 @@ module _ {A : Type 0} where
   pub one-grown :
       {buf rest b c r s : List A} {at i j : ℕ} → Grown buf at rest b i r → Grown buf at rest c j s → i ≡ j → (b ≡ c) × (r ≡ s)
   one-grown {buf} {r = r} {s = s} {at = at} g h e =
-      let n : length g.new ≡ length h.new = omega (arith, g.at-is, h.at-is, e) in
-      let both = same-front g.new h.new r s (sym g.rest-is ∙ h.rest-is) n in
-      (g.buf-is ∙ ap (λ (l : List A). sets buf at l) both.0 ∙ sym h.buf-is, both.1)
+      let n : length g.new ≡ length h.new = omega (arith, g.at_is, h.at_is, e) in
+      let both = same-front g.new h.new r s (sym g.rest_is ∙ h.rest_is) n in
+      (g.buf_is ∙ ap (λ (l : List A). sets buf at l) both.0 ∙ sym h.buf_is, both.1)
 
 -- the buffers are the same, and so is what is still to come
 pub one-wrote :
     {w : Bool} {d : Dialect} {f : Bytes} {p q q' : Head} {text ends rows x y z x' y' z' : List ℕ}
     → Wrote w d f p text ends rows q x y z → Wrote w d f p text ends rows q' x' y' z'
     → q.text ≡ q'.text → q.ends ≡ q'.ends → q.rows ≡ q'.rows
-    → ((x ≡ x') × (y ≡ y') × (z ≡ z')) × ((textAhead d f q ≡ textAhead d f q') × (endsAhead w d f q ≡ endsAhead w d f q') × (rowsAhead w d f q ≡ rowsAhead w d f q'))
+    → ((x ≡ x') × (y ≡ y') × (z ≡ z')) × ((text_ahead d f q ≡ text_ahead d f q') × (ends_ahead w d f q ≡ ends_ahead w d f q') × (rows_ahead w d f q ≡ rows_ahead w d f q'))
 one-wrote g h e₁ e₂ e₃ =
-    let t = one-grown g.text-on h.text-on e₁ in
+    let t = one-grown g.text_on h.text_on e₁ in
     let u = one-grown g.ends_on h.ends_on e₂ in
     let v = one-grown g.rows_on h.rows_on e₃ in
     ((t.0, u.0, v.0), (t.1, u.1, v.1))

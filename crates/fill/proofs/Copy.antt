@@ -10,21 +10,21 @@ use lib.Seq.{sets, drop-cons, length-take-le}
 use Rattle.format.specs.Filling.{Filling}
 use Rattle.format.proofs.Filling.{meant, move, push}
 use Rattle.format.specs.Table.{Bytes}
-use Rattle.format.specs.Dialect.{lf, Dialect, classOf}
+use Rattle.format.specs.Dialect.{lf, Dialect, class_of}
 use Rattle.steps.specs.Steps.{Form, put, go, step_of}
 use Rattle.runs.specs.Runs.{run}
 use Rattle.runs.proofs.Runs.{run-le, run-first}
-use Rattle.fill.specs.Fill.{textLeft, endsLeft, rowsLeft}
+use Rattle.fill.specs.Fill.{text_left, ends_left, rows_left}
 
 -- m bytes that are put, one by one: from a form among some to the form j, which is one of them
 module _
     (d : Dialect) (p : ℕ → Bool) (Some : Form → Type 0) (j : Form) (o : Some j)
-    (puts : (k : Form) → Some k → (b : ℕ) → p b ≡ true → step_of (d.allows lf) k (classOf d b) ≡ go j put)
+    (puts : (k : Form) → Some k → (b : ℕ) → p b ≡ true → step_of (d.allows lf) k (class_of d b) ≡ go j put)
   where
     pub text-run :
-        (m : ℕ) (l rest : Bytes) → m ≤ run p l → ((k : Form) → Some k → textLeft d (drop m l) k 0 ≡ rest)
-        → (k : Form) → Some k → textLeft d l k 0 ≡ take m l ++ rest
-    unfolding textLeft
+        (m : ℕ) (l rest : Bytes) → m ≤ run p l → ((k : Form) → Some k → text_left d (drop m l) k 0 ≡ rest)
+        → (k : Form) → Some k → text_left d l k 0 ≡ take m l ++ rest
+    unfolding text_left
     text-run zero l rest h e k s = e k s
     text-run (suc m) [] rest h e k s = absurd (omega (arith, run-le p []))
     text-run (suc m) (b ∷ l) rest h e k s =
@@ -32,9 +32,9 @@ module _
         rw (puts k s b q.0) (ap (λ (x : Bytes). b ∷ x) (text-run m l rest q.1 e j o))
 
     pub ends-run :
-        (w : Bool) (m : ℕ) (l : Bytes) (n : ℕ) (rest : List ℕ) → m ≤ run p l → ((k : Form) (u : Bool) → Some k → endsLeft w d (drop m l) k 0 (n + m) u ≡ rest)
-        → (k : Form) (u : Bool) → Some k → endsLeft w d l k 0 n u ≡ rest
-    unfolding endsLeft
+        (w : Bool) (m : ℕ) (l : Bytes) (n : ℕ) (rest : List ℕ) → m ≤ run p l → ((k : Form) (u : Bool) → Some k → ends_left w d (drop m l) k 0 (n + m) u ≡ rest)
+        → (k : Form) (u : Bool) → Some k → ends_left w d l k 0 n u ≡ rest
+    unfolding ends_left
     ends-run w zero l n rest h e k u s = let z : n + 0 ≡ n = omega arith in rw z at (e k u s)
     ends-run w (suc m) [] n rest h e k u s = absurd (omega (arith, run-le p []))
     ends-run w (suc m) (b ∷ l) n rest h e k u s =
@@ -43,9 +43,9 @@ module _
         rw (puts k s b q.0) (ends-run w m l (n + 0 + 1) rest q.1 (λ k u s. rw z at (e k u s)) j true o)
 
     pub rows_run :
-        (w : Bool) (m : ℕ) (l : Bytes) (n : ℕ) (rest : List ℕ) → m ≤ run p l → ((k : Form) (u : Bool) → Some k → rowsLeft w d (drop m l) k n u ≡ rest)
-        → (k : Form) (u : Bool) → Some k → rowsLeft w d l k n u ≡ rest
-    unfolding rowsLeft
+        (w : Bool) (m : ℕ) (l : Bytes) (n : ℕ) (rest : List ℕ) → m ≤ run p l → ((k : Form) (u : Bool) → Some k → rows_left w d (drop m l) k n u ≡ rest)
+        → (k : Form) (u : Bool) → Some k → rows_left w d l k n u ≡ rest
+    unfolding rows_left
     rows_run w zero l n rest h e k u s = e k u s
     rows_run w (suc m) [] n rest h e k u s = absurd (omega (arith, run-le p []))
     rows_run w (suc m) (b ∷ l) n rest h e k u s =
@@ -62,8 +62,8 @@ two_at f i v e₁ e₂ =
 -- a copy under way
 pub record Copied (f buf₀ : Bytes) (from count at j : ℕ) (buf : Bytes) : Type 0 where
   pub little : j ≤ count
-  pub file-room : from + count ≤ length f
-  pub text-room : at + count ≤ length buf
+  pub file_room : from + count ≤ length f
+  pub text_room : at + count ≤ length buf
   pub size : length buf ≡ length buf₀
   pub left : Filling buf (at + j) (take (count - j) (drop (from + j) f)) (sets buf₀ at (take count (drop from f)))
 
@@ -80,8 +80,8 @@ copied-start f buf₀ from count at h l =
     let n : length (take count (drop from f)) ≡ count = length-take-le count (drop from f) (rw (length-drop from f) (omega arith)) in
     record {
       little = omega arith;
-      file-room = h;
-      text-room = l;
+      file_room = h;
+      text_room = l;
       size = refl;
       left = copied_at f buf₀ from count at (from + 0) (at + 0) (count - 0) a b c (omega (arith, n));
     }
@@ -91,7 +91,7 @@ pub copied_more :
     → Copied f buf₀ from count at (j + 1) (set buf (at + j) (get_or f (from + j) 0))
 copied_more f buf₀ from count at j buf h l =
     let little = h.little in
-    let file-room = h.file-room in
+    let file_room = h.file_room in
     let a : count - j ≡ suc (count - (j + 1)) = omega arith in
     let b : from + (j + 1) ≡ suc (from + j) = omega arith in
     let e : at + j + 1 ≡ at + (j + 1) = omega arith in
@@ -99,8 +99,8 @@ copied_more f buf₀ from count at j buf h l =
     rw (a, drop-cons f (from + j) 0 (omega arith), b) in
     record {
       little = omega arith;
-      file-room = file-room;
-      text-room = rw (length-set buf (at + j) (get_or f (from + j) 0)) h.text-room;
+      file_room = file_room;
+      text_room = rw (length-set buf (at + j) (get_or f (from + j) 0)) h.text_room;
       size = length-set buf (at + j) (get_or f (from + j) 0) ∙ h.size;
       left = rw e at (push _ (move split h.left));
     }

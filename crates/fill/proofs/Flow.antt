@@ -7,16 +7,16 @@ use mathlib.Core.Bool.{Bool, true, false, cond}
 use mathlib.Core.List.{List, [], ◌∷◌, ◌++◌, append_assoc, flatten}
 use lib.ListN.{length, replicate}
 use Rattle.format.specs.Table.{Bytes, Content, Table}
-use Rattle.format.specs.Dialect.{lf, Dialect, classOf}
-use Rattle.format.specs.Memory.{lengths, text_of, endsOf, rows_of}
+use Rattle.format.specs.Dialect.{lf, Dialect, class_of}
+use Rattle.format.specs.Memory.{lengths, text_of, ends_of, rows_of}
 use Rattle.format.proofs.Classes.{blank-is}
 use Rattle.format.proofs.Memory.{lengths_none, lengths-more}
-use Rattle.steps.specs.Steps.{Form, start, lead, bare, quoted, shut, tail, cr, nothing, put, hold, drop, field_end, record-end, Act, refuse, go, step_of}
-use Rattle.steps.specs.Model.{Cell, Trace, refused, last, field, line, change, putting, dropping, keptIn, holding, anchor, doing, closing, run, Judged, declined, taken, Width, any, settled, agrees, beside, above, fits, judge, read}
+use Rattle.steps.specs.Steps.{Form, start, lead, bare, quoted, shut, tail, cr, nothing, put, hold, drop, field_end, record_end, Act, refuse, go, step_of}
+use Rattle.steps.specs.Model.{Cell, Trace, refused, last, field, line, change, putting, dropping, kept_in, holding, anchor, doing, closing, run, Judged, declined, taken, Width, any, settled, agrees, beside, above, fits, judge, read}
 use Rattle.steps.proofs.Acts.{HeldBlank, held-blank, run_end, run-byte}
 use Rattle.steps.proofs.Limits.{read_none, read_some}
 use Rattle.steps.proofs.Tallies.{Some, some-judge}
-use Rattle.fill.specs.Fill.{textBy, endsBy, rows_by, textLeft, endsLeft, rowsLeft}
+use Rattle.fill.specs.Fill.{text_by, ends_by, rows_by, text_left, ends_left, rows_left}
 
 -- a trace without a refusal
 abbrev pub Clean : Trace → Type 0
@@ -39,44 +39,44 @@ flow (field x a g r) = x.content ∷ flow r
 flow (line x l a g r) = x.content ∷ flow r
 
 -- with h blanks held: the text ahead; with n bytes of text so far: the ends ahead; with n fields so far: the rows ahead
-abbrev heldOn : ℕ → Content → Bytes
-heldOn h [] = []
-heldOn h (y ∷ c) = replicate h 0x20 ++ (y ∷ c)
+abbrev held_on : ℕ → Content → Bytes
+held_on h [] = []
+held_on h (y ∷ c) = replicate h 0x20 ++ (y ∷ c)
 
-abbrev textAhead : ℕ → List Content → Bytes
-textAhead h [] = []
-textAhead h (c ∷ cs) = heldOn h c ++ flatten cs
+abbrev text_ahead : ℕ → List Content → Bytes
+text_ahead h [] = []
+text_ahead h (c ∷ cs) = held_on h c ++ flatten cs
 
 abbrev up_to : ℕ → ℕ → Content → ℕ
 up_to n h [] = n
 up_to n h (y ∷ c) = n + (h + length (y ∷ c))
 
-abbrev endsAhead : ℕ → ℕ → List Content → List ℕ
-endsAhead n h [] = []
-endsAhead n h (c ∷ cs) = up_to n h c ∷ lengths (up_to n h c) cs
+abbrev ends_ahead : ℕ → ℕ → List Content → List ℕ
+ends_ahead n h [] = []
+ends_ahead n h (c ∷ cs) = up_to n h c ∷ lengths (up_to n h c) cs
 
-abbrev pub rowsAhead : ℕ → Trace → List ℕ
-rowsAhead n (refused i a p) = []
-rowsAhead n (last x l a) = (n + 1) ∷ []
-rowsAhead n (field x a g r) = rowsAhead (n + 1) r
-rowsAhead n (line x l a g r) = (n + 1) ∷ rowsAhead (n + 1) r
+abbrev pub rows_ahead : ℕ → Trace → List ℕ
+rows_ahead n (refused i a p) = []
+rows_ahead n (last x l a) = (n + 1) ∷ []
+rows_ahead n (field x a g r) = rows_ahead (n + 1) r
+rows_ahead n (line x l a g r) = (n + 1) ∷ rows_ahead (n + 1) r
 
 -- with no byte since the last record's end, nothing more is no record
-abbrev orNone : Bool → Bytes → List ℕ → List ℕ
-orNone true g l = l
-orNone false [] l = []
-orNone false (b ∷ f) l = l
+abbrev or_none : Bool → Bytes → List ℕ → List ℕ
+or_none true g l = l
+or_none false [] l = []
+or_none false (b ∷ f) l = l
 
-some-ahead : (u : Bool) (b : ℕ) (f : Bytes) (l : List ℕ) → orNone u (b ∷ f) l ≡ l
+some-ahead : (u : Bool) (b : ℕ) (f : Bytes) (l : List ℕ) → or_none u (b ∷ f) l ≡ l
 some-ahead true b f l = refl
 some-ahead false b f l = refl
 
 -- text
-held-put : (h b : ℕ) (c l : Bytes) → heldOn h (b ∷ c) ++ l ≡ replicate h 0x20 ++ (b ∷ (heldOn 0 c ++ l))
+held-put : (h b : ℕ) (c l : Bytes) → held_on h (b ∷ c) ++ l ≡ replicate h 0x20 ++ (b ∷ (held_on 0 c ++ l))
 held-put h b [] l = append_assoc (replicate h 0x20) (b ∷ []) l
 held-put h b (y ∷ c) l = append_assoc (replicate h 0x20) (b ∷ y ∷ c) l
 
-text-put : (h b : ℕ) (r : Trace) → Clean r → textAhead h (flow (change (putting b) r)) ≡ replicate h 0x20 ++ (b ∷ textAhead 0 (flow r))
+text-put : (h b : ℕ) (r : Trace) → Clean r → text_ahead h (flow (change (putting b) r)) ≡ replicate h 0x20 ++ (b ∷ text_ahead 0 (flow r))
 text-put h b (last x l a) s = held-put h b x.content (flatten [])
 text-put h b (field x a g r) s = held-put h b x.content (flatten (flow r))
 text-put h b (line x l a g r) s = held-put h b x.content (flatten (flow r))
@@ -85,17 +85,17 @@ spaces-in : (h : ℕ) (l : Bytes) → replicate h 0x20 ++ (0x20 ∷ l) ≡ 0x20 
 spaces-in zero l = refl
 spaces-in (suc h) l = ap (λ (m : Bytes). 0x20 ∷ m) (spaces-in h l)
 
-held-keep : (h n : ℕ) (c : Content) → heldOn h (keptIn 0x20 c n).content ≡ heldOn (suc h) c
+held-keep : (h n : ℕ) (c : Content) → held_on h (kept_in 0x20 c n).content ≡ held_on (suc h) c
 held-keep h n [] = refl
 held-keep h n (y ∷ c) = spaces-in h (y ∷ c)
 
-text-keep : (h : ℕ) (r : Trace) → textAhead h (flow (change (holding 0x20) r)) ≡ textAhead (suc h) (flow r)
+text-keep : (h : ℕ) (r : Trace) → text_ahead h (flow (change (holding 0x20) r)) ≡ text_ahead (suc h) (flow r)
 text-keep h (refused n a p) = refl
 text-keep h (last x l a) = ap (λ (l : Bytes). l ++ flatten []) (held-keep h x.drops x.content)
 text-keep h (field x a g r) = ap (λ (l : Bytes). l ++ flatten (flow r)) (held-keep h x.drops x.content)
 text-keep h (line x l a g r) = ap (λ (l : Bytes). l ++ flatten (flow r)) (held-keep h x.drops x.content)
 
-text-hold : (h b : ℕ) (r : Trace) → b ≡ 0x20 → textAhead (h + 1) (flow r) ≡ textAhead h (flow (change (holding b) r))
+text-hold : (h b : ℕ) (r : Trace) → b ≡ 0x20 → text_ahead (h + 1) (flow r) ≡ text_ahead h (flow (change (holding b) r))
 text-hold h b r e = rw (e, add-one h, text-keep h r)
 
 flow-drop : (r : Trace) → flow (change dropping r) ≡ flow r
@@ -104,11 +104,11 @@ flow-drop (last x l a) = refl
 flow-drop (field x a g r) = refl
 flow-drop (line x l a g r) = refl
 
-held_none : (c : Content) (l : Bytes) → heldOn 0 c ++ l ≡ c ++ l
+held_none : (c : Content) (l : Bytes) → held_on 0 c ++ l ≡ c ++ l
 held_none [] l = refl
 held_none (y ∷ c) l = refl
 
-text-start : (cs : List Content) → textAhead 0 cs ≡ flatten cs
+text-start : (cs : List Content) → text_ahead 0 cs ≡ flatten cs
 unfolding flatten
 text-start [] = refl
 text-start (c ∷ cs) = held_none c (flatten cs)
@@ -118,7 +118,7 @@ put-length : (n h b : ℕ) (c : Content) → up_to (n + h + 1) 0 c ≡ up_to n h
 put-length n h b [] = omega arith
 put-length n h b (y ∷ c) = omega arith
 
-hold-length : (n h b i : ℕ) (c : Content) → up_to n (h + 1) c ≡ up_to n h (keptIn b c i).content
+hold-length : (n h b i : ℕ) (c : Content) → up_to n (h + 1) c ≡ up_to n h (kept_in b c i).content
 hold-length n h b i [] = refl
 hold-length n h b i (y ∷ c) = omega arith
 
@@ -129,12 +129,12 @@ none-length n (y ∷ c) = omega arith
 module _ (d : Dialect) where
   -- what holds of the bytes ahead, in every form
   abbrev TextIs : Bytes → Type 0
-  TextIs f = (k : Form) (p : Bytes) (h : ℕ) → Clean (run d f k p) → textLeft d f k h ≡ textAhead h (flow (run d f k p))
+  TextIs f = (k : Form) (p : Bytes) (h : ℕ) → Clean (run d f k p) → text_left d f k h ≡ text_ahead h (flow (run d f k p))
 
   text-act :
-      (a : Act) (k : Form) (b : ℕ) (f p : Bytes) (h : ℕ) → HeldBlank (classOf d b) a → TextIs f → Clean (doing a k b f p (λ j q. run d f j q))
-      → textBy a h b (λ j i. textLeft d f j i) ≡ textAhead h (flow (doing a k b f p (λ j q. run d f j q)))
-  unfolding flatten textLeft
+      (a : Act) (k : Form) (b : ℕ) (f p : Bytes) (h : ℕ) → HeldBlank (class_of d b) a → TextIs f → Clean (doing a k b f p (λ j q. run d f j q))
+      → text_by a h b (λ j i. text_left d f j i) ≡ text_ahead h (flow (doing a k b f p (λ j q. run d f j q)))
+  unfolding flatten text_left
   text-act (refuse n) k b f p h o ih c = absurd c
   text-act (go j nothing) k b f p h o ih c = ih j (anchor k j (b ∷ f) p) h c
   text-act (go j put) k b f p h o ih c =
@@ -149,12 +149,12 @@ module _ (d : Dialect) where
   text-act (go j drop) k b f p h o ih c =
       let q = anchor k j (b ∷ f) p in
       let r = run d f j q in
-      ih j q h (clean-change dropping r c) ∙ ap (textAhead h) (sym (flow-drop r))
+      ih j q h (clean-change dropping r c) ∙ ap (text_ahead h) (sym (flow-drop r))
   text-act (go j field_end) k b f p h o ih c = ih start [] 0 c ∙ text-start (flow (run d f start []))
-  text-act (go j record-end) k b [] p h o ih c = refl
-  text-act (go j record-end) k b (e ∷ f) p h o ih c = ih start [] 0 c ∙ text-start (flow (run d (e ∷ f) start []))
+  text-act (go j record_end) k b [] p h o ih c = refl
+  text-act (go j record_end) k b (e ∷ f) p h o ih c = ih start [] 0 c ∙ text-start (flow (run d (e ∷ f) start []))
 
-  text-closing : (k : Form) (p : Bytes) (h : ℕ) → Clean (closing k p) → [] ≡ textAhead h (flow (closing k p))
+  text-closing : (k : Form) (p : Bytes) (h : ℕ) → Clean (closing k p) → [] ≡ text_ahead h (flow (closing k p))
   unfolding flatten
   text-closing start p h c = refl
   text-closing lead p h c = refl
@@ -164,38 +164,38 @@ module _ (d : Dialect) where
   text-closing tail p h c = refl
   text-closing cr p h c = absurd c
 
-  text-is : (f : Bytes) → TextIs f
-  unfolding textLeft
-  text-is [] k p h c = rw (run_end d k p) (text-closing k p h (rw (run_end d k p) at c))
-  text-is (b ∷ f) k p h c =
+  text_is : (f : Bytes) → TextIs f
+  unfolding text_left
+  text_is [] k p h c = rw (run_end d k p) (text-closing k p h (rw (run_end d k p) at c))
+  text_is (b ∷ f) k p h c =
       let y = d.allows lf in
       let e = run-byte d b f k p in
-      rw e (text-act (step_of y k (classOf d b)) k b f p h (held-blank y k (classOf d b)) (text-is f) (rw e at c))
+      rw e (text-act (step_of y k (class_of d b)) k b f p h (held-blank y k (class_of d b)) (text_is f) (rw e at c))
 
   -- ends
   abbrev EndsAre : Bytes → Type 0
-  EndsAre f = (k : Form) (p : Bytes) (h n : ℕ) (u : Bool) → Clean (run d f k p) → endsLeft true d f k h n u ≡ orNone u f (endsAhead n h (flow (run d f k p)))
+  EndsAre f = (k : Form) (p : Bytes) (h n : ℕ) (u : Bool) → Clean (run d f k p) → ends_left true d f k h n u ≡ or_none u f (ends_ahead n h (flow (run d f k p)))
 
-  ends-put : (n h b : ℕ) (r : Trace) → endsAhead (n + h + 1) 0 (flow r) ≡ endsAhead n h (flow (change (putting b) r))
+  ends-put : (n h b : ℕ) (r : Trace) → ends_ahead (n + h + 1) 0 (flow r) ≡ ends_ahead n h (flow (change (putting b) r))
   ends-put n h b (refused i a p) = refl
   ends-put n h b (last x l a) = rw (put-length n h b x.content)
   ends-put n h b (field x a g r) = rw (put-length n h b x.content)
   ends-put n h b (line x l a g r) = rw (put-length n h b x.content)
 
-  ends-hold : (n h b : ℕ) (r : Trace) → endsAhead n (h + 1) (flow r) ≡ endsAhead n h (flow (change (holding b) r))
+  ends-hold : (n h b : ℕ) (r : Trace) → ends_ahead n (h + 1) (flow r) ≡ ends_ahead n h (flow (change (holding b) r))
   ends-hold n h b (refused i a p) = refl
   ends-hold n h b (last x l a) = rw (hold-length n h b x.drops x.content)
   ends-hold n h b (field x a g r) = rw (hold-length n h b x.drops x.content)
   ends-hold n h b (line x l a g r) = rw (hold-length n h b x.drops x.content)
 
-  ends-start : (n : ℕ) (cs : List Content) → endsAhead n 0 cs ≡ lengths n cs
+  ends-start : (n : ℕ) (cs : List Content) → ends_ahead n 0 cs ≡ lengths n cs
   ends-start n [] = sym (lengths_none ℕ n)
   ends-start n (c ∷ cs) = rw (lengths-more n c cs, none-length n c)
 
   ends-act :
       (a : Act) (k : Form) (b : ℕ) (f p : Bytes) (h n : ℕ) → EndsAre f → Clean (doing a k b f p (λ j q. run d f j q))
-      → endsBy a h n (λ j i m v. endsLeft true d f j i m v) ≡ endsAhead n h (flow (doing a k b f p (λ j q. run d f j q)))
-  unfolding endsLeft
+      → ends_by a h n (λ j i m v. ends_left true d f j i m v) ≡ ends_ahead n h (flow (doing a k b f p (λ j q. run d f j q)))
+  unfolding ends_left
   ends-act (refuse i) k b f p h n ih c = absurd c
   ends-act (go j nothing) k b f p h n ih c = ih j (anchor k j (b ∷ f) p) h n true c
   ends-act (go j put) k b f p h n ih c =
@@ -209,12 +209,12 @@ module _ (d : Dialect) where
   ends-act (go j drop) k b f p h n ih c =
       let q = anchor k j (b ∷ f) p in
       let r = run d f j q in
-      ih j q h n true (clean-change dropping r c) ∙ ap (endsAhead n h) (sym (flow-drop r))
+      ih j q h n true (clean-change dropping r c) ∙ ap (ends_ahead n h) (sym (flow-drop r))
   ends-act (go j field_end) k b f p h n ih c = ap (λ (l : List ℕ). n ∷ l) (ih start [] 0 n true c ∙ ends-start n (flow (run d f start [])))
-  ends-act (go j record-end) k b [] p h n ih c = rw (lengths_none ℕ n)
-  ends-act (go j record-end) k b (e ∷ f) p h n ih c = ap (λ (l : List ℕ). n ∷ l) (ih start [] 0 n false c ∙ ends-start n (flow (run d (e ∷ f) start [])))
+  ends-act (go j record_end) k b [] p h n ih c = rw (lengths_none ℕ n)
+  ends-act (go j record_end) k b (e ∷ f) p h n ih c = ap (λ (l : List ℕ). n ∷ l) (ih start [] 0 n false c ∙ ends-start n (flow (run d (e ∷ f) start [])))
 
-  ends-closing : (k : Form) (p : Bytes) (h n : ℕ) → Clean (closing k p) → n ∷ [] ≡ endsAhead n h (flow (closing k p))
+  ends-closing : (k : Form) (p : Bytes) (h n : ℕ) → Clean (closing k p) → n ∷ [] ≡ ends_ahead n h (flow (closing k p))
   ends-closing start p h n c = rw (lengths_none ℕ n)
   ends-closing lead p h n c = rw (lengths_none ℕ n)
   ends-closing bare p h n c = rw (lengths_none ℕ n)
@@ -223,17 +223,17 @@ module _ (d : Dialect) where
   ends-closing tail p h n c = rw (lengths_none ℕ n)
   ends-closing cr p h n c = absurd c
 
-  ends-are : (f : Bytes) → EndsAre f
-  unfolding endsLeft
-  ends-are [] k p h n true c = rw (run_end d k p) (ends-closing k p h n (rw (run_end d k p) at c))
-  ends-are [] k p h n false c = refl
-  ends-are (b ∷ f) k p h n u c = let e = run-byte d b f k p in rw (some-ahead u b f _, e) (ends-act (step_of (d.allows lf) k (classOf d b)) k b f p h n (ends-are f) (rw e at c))
+  ends_are : (f : Bytes) → EndsAre f
+  unfolding ends_left
+  ends_are [] k p h n true c = rw (run_end d k p) (ends-closing k p h n (rw (run_end d k p) at c))
+  ends_are [] k p h n false c = refl
+  ends_are (b ∷ f) k p h n u c = let e = run-byte d b f k p in rw (some-ahead u b f _, e) (ends-act (step_of (d.allows lf) k (class_of d b)) k b f p h n (ends_are f) (rw e at c))
 
   -- rows
   abbrev RowsAre : Bytes → Type 0
-  RowsAre f = (k : Form) (p : Bytes) (n : ℕ) (u : Bool) → Clean (run d f k p) → rowsLeft true d f k n u ≡ orNone u f (rowsAhead n (run d f k p))
+  RowsAre f = (k : Form) (p : Bytes) (n : ℕ) (u : Bool) → Clean (run d f k p) → rows_left true d f k n u ≡ or_none u f (rows_ahead n (run d f k p))
 
-  rows-change : (n : ℕ) (φ : Cell → Cell) (r : Trace) → rowsAhead n r ≡ rowsAhead n (change φ r)
+  rows-change : (n : ℕ) (φ : Cell → Cell) (r : Trace) → rows_ahead n r ≡ rows_ahead n (change φ r)
   rows-change n φ (refused i a p) = refl
   rows-change n φ (last x l a) = refl
   rows-change n φ (field x a g r) = refl
@@ -241,13 +241,13 @@ module _ (d : Dialect) where
 
   rows-act :
       (a : Act) (k : Form) (b : ℕ) (f p : Bytes) (n : ℕ) → RowsAre f → Clean (doing a k b f p (λ j q. run d f j q))
-      → rows_by a n (λ j m v. rowsLeft true d f j m v) ≡ rowsAhead n (doing a k b f p (λ j q. run d f j q))
-  unfolding rowsLeft
+      → rows_by a n (λ j m v. rows_left true d f j m v) ≡ rows_ahead n (doing a k b f p (λ j q. run d f j q))
+  unfolding rows_left
   rows-act (refuse i) k b f p n ih c = absurd c
   rows-act (go j nothing) k b f p n ih c = ih j (anchor k j (b ∷ f) p) n true c
   rows-act (go j put) k b f p n ih c = inside (putting b) j (anchor k j (b ∷ f) p) c
     where
-      inside : (φ : Cell → Cell) (j : Form) (q : Bytes) → Clean (change φ (run d f j q)) → rowsLeft true d f j n true ≡ rowsAhead n (change φ (run d f j q))
+      inside : (φ : Cell → Cell) (j : Form) (q : Bytes) → Clean (change φ (run d f j q)) → rows_left true d f j n true ≡ rows_ahead n (change φ (run d f j q))
       inside φ j q c = ih j q n true (clean-change φ (run d f j q) c) ∙ rows-change n φ (run d f j q)
   rows-act (go j hold) k b f p n ih c =
       let q = anchor k j (b ∷ f) p in
@@ -256,10 +256,10 @@ module _ (d : Dialect) where
       let q = anchor k j (b ∷ f) p in
       ih j q n true (clean-change dropping (run d f j q) c) ∙ rows-change n dropping (run d f j q)
   rows-act (go j field_end) k b f p n ih c = ih start [] (n + 1) true c
-  rows-act (go j record-end) k b [] p n ih c = refl
-  rows-act (go j record-end) k b (e ∷ f) p n ih c = ap (λ (l : List ℕ). (n + 1) ∷ l) (ih start [] (n + 1) false c)
+  rows-act (go j record_end) k b [] p n ih c = refl
+  rows-act (go j record_end) k b (e ∷ f) p n ih c = ap (λ (l : List ℕ). (n + 1) ∷ l) (ih start [] (n + 1) false c)
 
-  rows-closing : (k : Form) (p : Bytes) (n : ℕ) → Clean (closing k p) → (n + 1) ∷ [] ≡ rowsAhead n (closing k p)
+  rows-closing : (k : Form) (p : Bytes) (n : ℕ) → Clean (closing k p) → (n + 1) ∷ [] ≡ rows_ahead n (closing k p)
   rows-closing start p n c = refl
   rows-closing lead p n c = refl
   rows-closing bare p n c = refl
@@ -269,16 +269,16 @@ module _ (d : Dialect) where
   rows-closing cr p n c = absurd c
 
   rows_are : (f : Bytes) → RowsAre f
-  unfolding rowsLeft
+  unfolding rows_left
   rows_are [] k p n true c = rw (run_end d k p) (rows-closing k p n (rw (run_end d k p) at c))
   rows_are [] k p n false c = refl
-  rows_are (b ∷ f) k p n u c = let e = run-byte d b f k p in rw (some-ahead u b f _, e) (rows-act (step_of (d.allows lf) k (classOf d b)) k b f p n (rows_are f) (rw e at c))
+  rows_are (b ∷ f) k p n u c = let e = run-byte d b f k p in rw (some-ahead u b f _, e) (rows-act (step_of (d.allows lf) k (class_of d b)) k b f p n (rows_are f) (rw e at c))
 
 -- what a trace puts out is the table that is judged of it
 pub record Flows (r : Trace) (t : Table) : Type 0 where
   pub clean : Clean r
   pub contents : flow r ≡ flatten t
-  pub rows : (n : ℕ) → rowsAhead n r ≡ lengths n t
+  pub rows : (n : ℕ) → rows_ahead n r ≡ lengths n t
 
 never-taken : {A : Type 0} {n m l : ℕ} {a p : Bytes} {t : Table} → declined n a p ≡ taken t m l → A
 never-taken e = let z : ◌≡◌ {A = ℕ} 0 1 = cc in absurd (omega arith)
@@ -286,7 +286,7 @@ never-taken e = let z : ◌≡◌ {A = ℕ} 0 1 = cc in absurd (omega arith)
 module _ (d : Dialect) where
   flows-line :
       (x y : Bool) (c : Content) (n l i k : ℕ) (a p : Bytes) (r : Trace) (q : Judged) (t : Table)
-      → ((s : Table) (m o : ℕ) → q ≡ taken s m o → Clean r × (flow r ≡ c ∷ flatten s) × ((n : ℕ) → rowsAhead n r ≡ (n + 1) ∷ lengths (n + 1) s))
+      → ((s : Table) (m o : ℕ) → q ≡ taken s m o → Clean r × (flow r ≡ c ∷ flatten s) × ((n : ℕ) → rows_ahead n r ≡ (n + 1) ∷ lengths (n + 1) s))
       → cond x (cond y (above (c ∷ []) n l q) (declined 10 a a)) (declined 9 a p) ≡ taken t i k → Flows r t
   unfolding flatten
   flows-line true true c n l i k a p r (declined j b e) t h q = never-taken q
@@ -336,15 +336,15 @@ module _ (d : Dialect) where
   -- over a whole file that is read as a table
   pub filled :
       (f : Bytes) (t : Table) (m l : ℕ) → read d any f ≡ taken t m l
-      → (textLeft d f start 0 ≡ text_of t) × (endsLeft true d f start 0 0 false ≡ endsOf t) × (rowsLeft true d f start 0 false ≡ rows_of t)
-  unfolding textLeft endsLeft rowsLeft flatten
+      → (text_left d f start 0 ≡ text_of t) × (ends_left true d f start 0 0 false ≡ ends_of t) × (rows_left true d f start 0 false ≡ rows_of t)
+  unfolding text_left ends_left rows_left flatten
   filled [] t m l e =
       let z : [] ≡ t = cc (read_none d any) in
-      (ap text_of z, sym (lengths_none ℕ 0) ∙ ap endsOf z, sym (lengths_none Content 0) ∙ ap rows_of z)
+      (ap text_of z, sym (lengths_none ℕ 0) ∙ ap ends_of z, sym (lengths_none Content 0) ∙ ap rows_of z)
   filled (b ∷ f) t m l e =
       let r = run d (b ∷ f) start [] in
       let q = flows any 0 (b ∷ f) r t m l (sym (read_some d any b f) ∙ e) in (
-        text-is d (b ∷ f) start [] 0 q.clean ∙ (text-start (flow r) ∙ ap flatten q.contents),
-        ends-are d (b ∷ f) start [] 0 0 false q.clean ∙ (ends-start d 0 (flow r) ∙ ap (lengths 0) q.contents),
+        text_is d (b ∷ f) start [] 0 q.clean ∙ (text-start (flow r) ∙ ap flatten q.contents),
+        ends_are d (b ∷ f) start [] 0 0 false q.clean ∙ (ends-start d 0 (flow r) ∙ ap (lengths 0) q.contents),
         rows_are d (b ∷ f) start [] 0 false q.clean ∙ q.rows 0,
       )

@@ -16,29 +16,29 @@ use Rattle.fill.specs.Walk.{Grown, Wrote}
 module _ {A : Type 0} where
   -- nothing is new; an element is; a list is
   pub grown-none : {buf rest rest' : List A} {at : ℕ} → rest ≡ rest' → Grown buf at rest buf at rest'
-  grown-none e = record { new = []; rest-is = e; room = omega arith; buf-is = refl; at-is = omega arith }
+  grown-none e = record { new = []; rest_is = e; room = omega arith; buf_is = refl; at_is = omega arith }
 
   pub grown-one : {buf rest rest' : List A} {at : ℕ} {x : A} → at < length buf → rest ≡ x ∷ rest' → Grown buf at rest (set buf at x) (at + 1) rest'
-  grown-one {x = x} l e = record { new = x ∷ []; rest-is = e; room = omega arith; buf-is = refl; at-is = omega arith }
+  grown-one {x = x} l e = record { new = x ∷ []; rest_is = e; room = omega arith; buf_is = refl; at_is = omega arith }
 
   pub grown-list :
       (xs : List A) {buf rest rest' : List A} {at n : ℕ} → length xs ≡ n → at + n ≤ length buf → rest ≡ xs ++ rest'
       → Grown buf at rest (sets buf at xs) (at + n) rest'
-  grown-list xs e l h = record { new = xs; rest-is = h; room = omega arith; buf-is = refl; at-is = omega arith }
+  grown-list xs e l h = record { new = xs; rest_is = h; room = omega arith; buf_is = refl; at_is = omega arith }
 
   pub grown-from : {buf rest rest₀ buf' rest' : List A} {at at' : ℕ} → rest₀ ≡ rest → Grown buf at rest buf' at' rest' → Grown buf at rest₀ buf' at' rest'
-  grown-from e g = record { new = g.new; rest-is = e ∙ g.rest-is; room = g.room; buf-is = g.buf-is; at-is = g.at-is }
+  grown-from e g = record { new = g.new; rest_is = e ∙ g.rest_is; room = g.room; buf_is = g.buf_is; at_is = g.at_is }
 
   -- the buffer keeps its length, and its place stays in it
   pub grown-size : {buf rest buf' rest' : List A} {at at' : ℕ} → Grown buf at rest buf' at' rest' → length buf' ≡ length buf
-  grown-size {buf} {at = at} g = ap length g.buf-is ∙ length-sets buf at g.new
+  grown-size {buf} {at = at} g = ap length g.buf_is ∙ length-sets buf at g.new
 
   pub grown-fits : {buf rest buf' rest' : List A} {at at' : ℕ} → Grown buf at rest buf' at' rest' → at ≤ length buf → at' ≤ length buf'
-  grown-fits g l = omega (arith, g.room, g.at-is, grown-size g)
+  grown-fits g l = omega (arith, g.room, g.at_is, grown-size g)
 
   -- what is written and still to come stays as long
   pub grown-all : {buf rest buf' rest' : List A} {at at' : ℕ} → Grown buf at rest buf' at' rest' → at' + length rest' ≡ at + length rest
-  grown-all {rest' = rest'} g = omega (arith, g.at-is, ap length g.rest-is, length-append g.new rest')
+  grown-all {rest' = rest'} g = omega (arith, g.at_is, ap length g.rest_is, length-append g.new rest')
 
   -- one behind another
   pub grown-then :
@@ -48,15 +48,15 @@ module _ {A : Type 0} where
       let both = length-append g.new h.new in
       record {
         new = g.new ++ h.new;
-        rest-is = g.rest-is ∙ ap (λ (r : List A). g.new ++ r) h.rest-is ∙ sym (append_assoc g.new h.new rest'');
-        room = omega (arith, both, g.room, h.room, g.at-is, grown-size g);
-        buf-is = h.buf-is ∙ rw (g.buf-is, g.at-is) (sym (sets-append g.new h.new buf at));
-        at-is = omega (arith, both, g.at-is, h.at-is);
+        rest_is = g.rest_is ∙ ap (λ (r : List A). g.new ++ r) h.rest_is ∙ sym (append_assoc g.new h.new rest'');
+        room = omega (arith, both, g.room, h.room, g.at_is, grown-size g);
+        buf_is = h.buf_is ∙ rw (g.buf_is, g.at_is) (sym (sets-append g.new h.new buf at));
+        at_is = omega (arith, both, g.at_is, h.at_is);
       }
 
   -- so whatever the buffer was to become, it is still to become
   pub grown-onward : {buf rest buf' rest' : List A} {at at' : ℕ} → Grown buf at rest buf' at' rest' → Onward buf at rest buf' at' rest'
-  grown-onward g target w = rw (g.buf-is, g.at-is) (pushes g.new target (move g.rest-is w))
+  grown-onward g target w = rw (g.buf_is, g.at_is) (pushes g.new target (move g.rest_is w))
 
 -- the walk stays; it goes on
 pub wrote_none : {w : Bool} {d : Dialect} {f : Bytes} {p : Head} {text ends rows : List ℕ} → Wrote w d f p text ends rows p text ends rows
@@ -65,7 +65,7 @@ wrote_none =
       on = omega arith;
       inside = λ l. l;
       held = omega arith;
-      text-on = grown-none refl;
+      text_on = grown-none refl;
       ends_on = grown-none refl;
       rows_on = grown-none refl;
     }
@@ -78,7 +78,7 @@ wrote_then g h =
       on = omega (arith, g.on, h.on);
       inside = λ l. h.inside (g.inside l);
       held = omega (arith, g.held, h.held);
-      text-on = grown-then g.text-on h.text-on;
+      text_on = grown-then g.text_on h.text_on;
       ends_on = grown-then g.ends_on h.ends_on;
       rows_on = grown-then g.rows_on h.rows_on;
     }
@@ -87,4 +87,4 @@ wrote_then g h =
 pub wrote-sizes :
     {w : Bool} {d : Dialect} {f : Bytes} {p q : Head} {text ends rows text' ends' rows' : List ℕ} → Wrote w d f p text ends rows q text' ends' rows'
     → (length text' ≡ length text) × (length ends' ≡ length ends) × (length rows' ≡ length rows)
-wrote-sizes g = (grown-size g.text-on, grown-size g.ends_on, grown-size g.rows_on)
+wrote-sizes g = (grown-size g.text_on, grown-size g.ends_on, grown-size g.rows_on)

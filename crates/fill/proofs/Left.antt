@@ -4,36 +4,36 @@ use mathlib.Core.Path.{◌≡◌, refl}
 use mathlib.Core.Bool.{Bool, cond}
 use mathlib.Core.List.{[], ◌∷◌}
 use Rattle.format.specs.Table.{Bytes}
-use Rattle.format.specs.Dialect.{lf, Dialect, classOf}
+use Rattle.format.specs.Dialect.{lf, Dialect, class_of}
 use Rattle.steps.specs.Steps.{Form, step_of}
-use Rattle.fill.specs.Fill.{textBy, endsBy, rows_by, textLeft, endsLeft, rowsLeft}
+use Rattle.fill.specs.Fill.{text_by, ends_by, rows_by, text_left, ends_left, rows_left}
 
 module _ (d : Dialect) where
-  pub text-none : (k : Form) (h : ℕ) → textLeft d [] k h ≡ []
-  unfolding textLeft
+  pub text-none : (k : Form) (h : ℕ) → text_left d [] k h ≡ []
+  unfolding text_left
   text-none k h = refl
 
-  pub text-byte : (b : ℕ) (f : Bytes) (k : Form) (h : ℕ) → textLeft d (b ∷ f) k h ≡ textBy (step_of (d.allows lf) k (classOf d b)) h b (λ j i. textLeft d f j i)
-  unfolding textLeft
-  text-byte b f k h = refl
+  pub text_byte : (b : ℕ) (f : Bytes) (k : Form) (h : ℕ) → text_left d (b ∷ f) k h ≡ text_by (step_of (d.allows lf) k (class_of d b)) h b (λ j i. text_left d f j i)
+  unfolding text_left
+  text_byte b f k h = refl
 
 module _ (w : Bool) (d : Dialect) where
-  pub ends-none : (k : Form) (h n : ℕ) (u : Bool) → endsLeft w d [] k h n u ≡ cond u (cond w (n ∷ []) []) []
-  unfolding endsLeft
+  pub ends-none : (k : Form) (h n : ℕ) (u : Bool) → ends_left w d [] k h n u ≡ cond u (cond w (n ∷ []) []) []
+  unfolding ends_left
   ends-none k h n u = refl
 
   pub ends-byte :
       (b : ℕ) (f : Bytes) (k : Form) (h n : ℕ) (u : Bool)
-      → endsLeft w d (b ∷ f) k h n u ≡ endsBy (step_of (d.allows lf) k (classOf d b)) h n (λ j i m v. endsLeft w d f j i m v)
-  unfolding endsLeft
+      → ends_left w d (b ∷ f) k h n u ≡ ends_by (step_of (d.allows lf) k (class_of d b)) h n (λ j i m v. ends_left w d f j i m v)
+  unfolding ends_left
   ends-byte b f k h n u = refl
 
-  pub rows_none : (k : Form) (n : ℕ) (u : Bool) → rowsLeft w d [] k n u ≡ cond u (cond w ((n + 1) ∷ []) []) []
-  unfolding rowsLeft
+  pub rows_none : (k : Form) (n : ℕ) (u : Bool) → rows_left w d [] k n u ≡ cond u (cond w ((n + 1) ∷ []) []) []
+  unfolding rows_left
   rows_none k n u = refl
 
   pub rows-byte :
       (b : ℕ) (f : Bytes) (k : Form) (n : ℕ) (u : Bool)
-      → rowsLeft w d (b ∷ f) k n u ≡ rows_by (step_of (d.allows lf) k (classOf d b)) n (λ j m v. rowsLeft w d f j m v)
-  unfolding rowsLeft
+      → rows_left w d (b ∷ f) k n u ≡ rows_by (step_of (d.allows lf) k (class_of d b)) n (λ j m v. rows_left w d f j m v)
+  unfolding rows_left
   rows-byte b f k n u = refl

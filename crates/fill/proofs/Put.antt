@@ -9,7 +9,7 @@ use Rattle.format.proofs.Tests.{and_both}
 use Rattle.format.specs.Memory.{largest32}
 use Rattle.fill.specs.declared.Head.{Head}
 use Rattle.fill.specs.declared.Field.{Field}
-use Rattle.fill.specs.Put.{endFits, end_of, fieldFits}
+use Rattle.fill.specs.Put.{end_fits, end_of, field_fits}
 
 pub within-is : (l from count : ℕ) → from ≤ l → leb count (l - from) ≡ leb (from + count) l
 within-is l from count h = by (leb count (l - from)) refl
@@ -20,21 +20,21 @@ within-is l from count h = by (leb count (l - from)) refl
 
 -- an end and a row
 pub record EndRoom (p : Head) (n : ℕ) (row : Bool) (e r : ℕ) : Type 0 where
-  pub ends-room : p.ends < e
+  pub ends_room : p.ends < e
   pub small : n ≤ largest32
   pub few : p.ends < largest32
-  pub rows-room : row ≡ true → p.rows < r
+  pub rows_room : row ≡ true → p.rows < r
 
-pub end-room : (p : Head) (n : ℕ) (row : Bool) (e r : ℕ) → endFits p n row e r ≡ true → EndRoom p n row e r
+pub end-room : (p : Head) (n : ℕ) (row : Bool) (e r : ℕ) → end_fits p n row e r ≡ true → EndRoom p n row e r
 end-room p n row e r h =
     let a = and_both _ _ h in
     let b = and_both _ _ a.0 in
     let k = and_both _ _ b.0 in
-    record { ends-room = ltb-true _ _ k.0; small = leb-true _ _ k.1; few = ltb-true _ _ b.1; rows-room = λ q. ltb-true _ _ (rw q at a.1) }
+    record { ends_room = ltb-true _ _ k.0; small = leb-true _ _ k.1; few = ltb-true _ _ b.1; rows_room = λ q. ltb-true _ _ (rw q at a.1) }
 
-pub room-end : (p : Head) (n : ℕ) (row : Bool) (e r : ℕ) → EndRoom p n row e r → endFits p n row e r ≡ true
+pub room-end : (p : Head) (n : ℕ) (row : Bool) (e r : ℕ) → EndRoom p n row e r → end_fits p n row e r ≡ true
 room-end p n row e r h =
-    rw (lt-ltb p.ends e h.ends-room, le-leb n largest32 h.small, lt-ltb p.ends largest32 h.few) (by row h.rows-room)
+    rw (lt-ltb p.ends e h.ends_room, le-leb n largest32 h.small, lt-ltb p.ends largest32 h.few) (by row h.rows_room)
   where
     by : (x : Bool) → (x ≡ true → p.rows < r) → (not x || ltb p.rows r) ≡ true
     by true g = lt-ltb p.rows r (g refl)
@@ -49,15 +49,15 @@ rows_few false n r h l m = omega arith
 pub record FieldRoom (p : Head) (x : Field) (l t e r : ℕ) : Type 0 where
   pub order : x.from ≤ x.to
   pub inside : x.to ≤ l
-  pub text-room : end_of p x ≤ t
+  pub text_room : end_of p x ≤ t
   pub end : EndRoom p (end_of p x) x.row e r
 
-pub field_room : (p : Head) (x : Field) (l t e r : ℕ) → fieldFits p x l t e r ≡ true → FieldRoom p x l t e r
+pub field_room : (p : Head) (x : Field) (l t e r : ℕ) → field_fits p x l t e r ≡ true → FieldRoom p x l t e r
 field_room p x l t e r h =
     let a = and_both _ _ h in
     let b = and_both _ _ a.1 in
     let k = and_both _ _ b.1 in
-    record { order = leb-true _ _ a.0; inside = leb-true _ _ b.0; text-room = leb-true _ _ k.0; end = end-room p (end_of p x) x.row e r k.1 }
+    record { order = leb-true _ _ a.0; inside = leb-true _ _ b.0; text_room = leb-true _ _ k.0; end = end-room p (end_of p x) x.row e r k.1 }
 
 -- two limits are the least of them
 leb-min : (n a b : ℕ) → leb n (min a b) ≡ (leb n a && leb n b)
@@ -78,7 +78,7 @@ ltb-min n a b = go (ltb n a) (ltb n b) refl refl
 
 pub fits-least :
     (p : Head) (n : ℕ) (row : Bool) (t e r : ℕ)
-    → (leb n t && endFits p n row e r) ≡ (leb n (min t largest32) && (ltb p.ends (min e largest32) && (not row || ltb p.rows r)))
+    → (leb n t && end_fits p n row e r) ≡ (leb n (min t largest32) && (ltb p.ends (min e largest32) && (not row || ltb p.rows r)))
 fits-least p n row t e r =
     rw (leb-min n t largest32, ltb-min p.ends e largest32)
     (go (leb n t) (leb n largest32) (ltb p.ends e) (ltb p.ends largest32) (not row || ltb p.rows r))

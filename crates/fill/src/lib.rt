@@ -5,7 +5,7 @@
 ghost use Rattle.std.specs.Prelude.{◌≡◌, true, cond, not, ◌&&◌, ◌||◌, ◌+◌, ◌-◌, ◌<◌, ◌≤◌, min, leb, ltb, length, set, replicate, take, drop};
 ghost use Rattle.std.proofs.lemmas.List.Edits.{sets};
 ghost use Rattle.format.specs.Memory.{largest32};
-ghost use Rattle.fill.specs.Put.{copyFits, endFits, fieldFits, end_of, behind, rowsWith};
+ghost use Rattle.fill.specs.Put.{copy_fits, end_fits, field_fits, end_of, behind, rows_with};
 
 // Where the walk is: the next byte of the file, the form, the blanks held, how many of the text, the
 // ends and the rows are written, and whether a byte came since the last record's end.
@@ -33,8 +33,8 @@ pub struct Field {
 // Copies so many bytes of the file to a place of the text, and says where they end there; or the place
 // as it was.
 pub fn copied(file: &[u8], from: usize, count: usize, text: &mut [u8], at: usize) -> usize
-    ensures value { result ≡ cond (copyFits (length file.now) from count (length text.old) at) (at + count) at }
-    ensures text_after { text.new ≡ cond (copyFits (length file.now) from count (length text.old) at) (sets text.old at (take count (drop from file.now))) text.old }
+    ensures value { result ≡ cond (copy_fits (length file.now) from count (length text.old) at) (at + count) at }
+    ensures text_after { text.new ≡ cond (copy_fits (length file.now) from count (length text.old) at) (sets text.old at (take count (drop from file.now))) text.old }
 {
     if !copy_fits(file.len(), from, count, text.len(), at) {
         return at;
@@ -55,7 +55,7 @@ pub fn put_run(text: &mut [u8], at: usize, count: usize, b: u8) -> usize
 
 // Whether so many bytes lie in the file from a place on, and fit into the text.
 fn copy_fits(file: usize, from: usize, count: usize, text: usize, at: usize) -> bool
-    ensures { result ≡ copyFits file from count text at }
+    ensures { result ≡ copy_fits file from count text at }
 {
     within(file, from, count) & within(text, at, count)
 }
@@ -110,10 +110,10 @@ pub fn put_field(
     ends: &mut [u32],
     rows: &mut [u32],
 ) -> Head
-    ensures value { result ≡ cond (fieldFits p x (length file.now) (length text.old) (length ends.old) (length rows.old)) (behind p x.next x.row (end_of p x)) p }
-    ensures text_after { text.new ≡ cond (fieldFits p x (length file.now) (length text.old) (length ends.old) (length rows.old)) (sets text.old p.text (take (x.to - x.from) (drop x.from file.now))) text.old }
-    ensures ends_after { ends.new ≡ cond (fieldFits p x (length file.now) (length text.old) (length ends.old) (length rows.old)) (set ends.old p.ends (end_of p x)) ends.old }
-    ensures rows_after { rows.new ≡ cond (fieldFits p x (length file.now) (length text.old) (length ends.old) (length rows.old)) (rowsWith p x.row rows.old) rows.old }
+    ensures value { result ≡ cond (field_fits p x (length file.now) (length text.old) (length ends.old) (length rows.old)) (behind p x.next x.row (end_of p x)) p }
+    ensures text_after { text.new ≡ cond (field_fits p x (length file.now) (length text.old) (length ends.old) (length rows.old)) (sets text.old p.text (take (x.to - x.from) (drop x.from file.now))) text.old }
+    ensures ends_after { ends.new ≡ cond (field_fits p x (length file.now) (length text.old) (length ends.old) (length rows.old)) (set ends.old p.ends (end_of p x)) ends.old }
+    ensures rows_after { rows.new ≡ cond (field_fits p x (length file.now) (length text.old) (length ends.old) (length rows.old)) (rows_with p x.row rows.old) rows.old }
 {
     if x.row {
         return put_whole(file, p, x, text, ends, rows);
@@ -130,10 +130,10 @@ fn put_whole(
     ends: &mut [u32],
     rows: &mut [u32],
 ) -> Head
-    ensures value { result ≡ cond (fieldFits p x (length file.now) (length text.old) (length ends.old) (length rows.old)) (behind p x.next x.row (end_of p x)) p }
-    ensures text_after { text.new ≡ cond (fieldFits p x (length file.now) (length text.old) (length ends.old) (length rows.old)) (sets text.old p.text (take (x.to - x.from) (drop x.from file.now))) text.old }
-    ensures ends_after { ends.new ≡ cond (fieldFits p x (length file.now) (length text.old) (length ends.old) (length rows.old)) (set ends.old p.ends (end_of p x)) ends.old }
-    ensures rows_after { rows.new ≡ cond (fieldFits p x (length file.now) (length text.old) (length ends.old) (length rows.old)) (rowsWith p x.row rows.old) rows.old }
+    ensures value { result ≡ cond (field_fits p x (length file.now) (length text.old) (length ends.old) (length rows.old)) (behind p x.next x.row (end_of p x)) p }
+    ensures text_after { text.new ≡ cond (field_fits p x (length file.now) (length text.old) (length ends.old) (length rows.old)) (sets text.old p.text (take (x.to - x.from) (drop x.from file.now))) text.old }
+    ensures ends_after { ends.new ≡ cond (field_fits p x (length file.now) (length text.old) (length ends.old) (length rows.old)) (set ends.old p.ends (end_of p x)) ends.old }
+    ensures rows_after { rows.new ≡ cond (field_fits p x (length file.now) (length text.old) (length ends.old) (length rows.old)) (rows_with p x.row rows.old) rows.old }
 {
     if !field_fits(p, x, file.len(), text.len(), ends.len(), rows.len()) {
         return p;
@@ -145,7 +145,7 @@ fn put_whole(
 
 // Whether a field fits.
 fn field_fits(p: Head, x: Field, file: usize, text: usize, ends: usize, rows: usize) -> bool
-    ensures { result ≡ fieldFits p x file text ends rows }
+    ensures { result ≡ field_fits p x file text ends rows }
 {
     if x.to < x.from {
         return false;
@@ -180,7 +180,7 @@ fn entry_fits(p: Head, row: bool, ends: usize, rows: usize) -> bool
 
 // Whether an end, and the row of a record that ends, fit.
 fn end_fits(p: Head, n: usize, row: bool, ends: usize, rows: usize) -> bool
-    ensures { result ≡ endFits p n row ends rows }
+    ensures { result ≡ end_fits p n row ends rows }
 {
     (p.ends < ends)
         & (n <= format::LARGEST_32)
@@ -191,9 +191,9 @@ fn end_fits(p: Head, n: usize, row: bool, ends: usize, rows: usize) -> bool
 // Writes the end of a field whose content is written already, and the row where it ends a record. The
 // walk is then at the next field; or, with nothing written, where it was.
 pub fn put_end(p: Head, next: usize, row: bool, ends: &mut [u32], rows: &mut [u32]) -> Head
-    ensures value { result ≡ cond (endFits p p.text row (length ends.old) (length rows.old)) (behind p next row p.text) p }
-    ensures ends_after { ends.new ≡ cond (endFits p p.text row (length ends.old) (length rows.old)) (set ends.old p.ends p.text) ends.old }
-    ensures rows_after { rows.new ≡ cond (endFits p p.text row (length ends.old) (length rows.old)) (rowsWith p row rows.old) rows.old }
+    ensures value { result ≡ cond (end_fits p p.text row (length ends.old) (length rows.old)) (behind p next row p.text) p }
+    ensures ends_after { ends.new ≡ cond (end_fits p p.text row (length ends.old) (length rows.old)) (set ends.old p.ends p.text) ends.old }
+    ensures rows_after { rows.new ≡ cond (end_fits p p.text row (length ends.old) (length rows.old)) (rows_with p row rows.old) rows.old }
 {
     if !end_fits(p, p.text, row, ends.len(), rows.len()) {
         return p;
@@ -204,9 +204,9 @@ pub fn put_end(p: Head, next: usize, row: bool, ends: &mut [u32], rows: &mut [u3
 
 // Writes an end that fits, and the row of a record that ends.
 fn write_end(p: Head, n: usize, row: bool, ends: &mut [u32], rows: &mut [u32])
-    requires { endFits p n row (length ends.old) (length rows.old) ≡ true }
+    requires { end_fits p n row (length ends.old) (length rows.old) ≡ true }
     ensures ends_after { ends.new ≡ set ends.old p.ends n }
-    ensures rows_after { rows.new ≡ rowsWith p row rows.old }
+    ensures rows_after { rows.new ≡ rows_with p row rows.old }
 {
     let m = p.ends;
     ends[m] = n as u32;

@@ -18,8 +18,8 @@ use Rattle.format.proofs.Forms.{Clean, plain-reads}
 module _ {d : Dialect} where
   bare-clean : {f g : Bytes} {c : Content} → Bare d f c g → Clean d c
   bare-clean Bare.none = tt
-  bare-clean (Bare.text-byte k r) = (λ e. let z : ◌≡◌ {A = ℕ} 0 1 = cc in omega arith, bare-clean r)
-  bare-clean (Bare.blank-byte k r) = (λ e. let z : ◌≡◌ {A = ℕ} 0 1 = cc in omega arith, bare-clean r)
+  bare-clean (Bare.text_byte k r) = (λ e. let z : ◌≡◌ {A = ℕ} 0 1 = cc in omega arith, bare-clean r)
+  bare-clean (Bare.blank_byte k r) = (λ e. let z : ◌≡◌ {A = ℕ} 0 1 = cc in omega arith, bare-clean r)
 
   inside-clean : {f g : Bytes} {c : Content} → Inside d f c g → Clean d c
   inside-clean Inside.none = tt
@@ -47,17 +47,17 @@ module _ {d : Dialect} where
   empty-allowed = record { rows = rw (or-true (d.allows ragged)) tt; contents = tt }
 
   pub reading-can-hold : {f : Bytes} {t : Table} {r : ℕ} → Reading d f t r → CanHold d t
-  reading-can-hold (Reading.nothing EmptyFile.empty) = record { some-field = tt; none-forbidden = tt; rules = empty-allowed }
-  reading-can-hold (Reading.something p k h e) = let (n, b) = file-clean p in record { some-field = n; none-forbidden = b; rules = h }
+  reading-can-hold (Reading.nothing EmptyFile.empty) = record { some_field = tt; none_forbidden = tt; rules = empty-allowed }
+  reading-can-hold (Reading.something p k h e) = let (n, b) = file-clean p in record { some_field = n; none_forbidden = b; rules = h }
 
 -- each file has one table
 abbrev pub OneTable : Dialect → Type 0
 OneTable d = (f : Bytes) (t u : Table) (r s : ℕ) → Reading d f t r → Reading d f u s → t ≡ u
 
-pub same-plain :
-    (d : Dialect) → T (delimits d.delimiterByte) → OneTable d → {f g : Bytes} {t u : Table} {r s : ℕ}
+pub same_plain :
+    (d : Dialect) → T (delimits d.delimiter_byte) → OneTable d → {f g : Bytes} {t u : Table} {r s : ℕ}
     → Reading d f t r → Reading d g u s → (plain d t ≡ plain d u) ↔ (t ≡ u)
-same-plain d valid one {t} {u} p q = (there, λ e. ap (plain d) e)
+same_plain d valid one {t} {u} p q = (there, λ e. ap (plain d) e)
   where
     there : plain d t ≡ plain d u → t ≡ u
     there e = one (plain d u) t u _ _ (rw e at (plain-reads d valid t (reading-can-hold p))) (plain-reads d valid u (reading-can-hold q))

@@ -8,14 +8,14 @@ use lib.ListN.{length}
 use Rattle.format.specs.Table.{Bytes, Table}
 use Rattle.format.specs.Dialect.{strict}
 use Rattle.format.specs.House.{EmptyFile, EndsInBreak}
-use Rattle.format.specs.WrittenForms.{plainForm, plain, CanHold}
-use Rattle.format.specs.Count.{inFile, needless, missing, Tally, tally}
+use Rattle.format.specs.WrittenForms.{plain_form, plain, CanHold}
+use Rattle.format.specs.Count.{sum_in_file, needless, missing, Tally, tally}
 use Rattle.format.specs.Reading.{Reading}
 use Rattle.format.proofs.Ended.{missing-ended}
 use Rattle.format.proofs.Forms.{lines-read, plain-form-reads, plain-reads}
-use Rattle.format.proofs.CanHold.{OneTable, same-plain}
+use Rattle.format.proofs.CanHold.{OneTable, same_plain}
 use Rattle.format.proofs.Leniencies.{strict-report, none-in-file, no-alones}
-use Rattle.format.proofs.Tally.{length-law, tally-ended, tally-le, one-tally, plain-shortest-ended}
+use Rattle.format.proofs.Tally.{length-law, tally-ended, tally-le, one_tally, plain-shortest-ended}
 
 -- f is, among the strict files that end in a line break and read as t, shorter than all others
 pub record ShortestEnded (t : Table) (f : Bytes) : Type 0 where
@@ -31,10 +31,10 @@ StrictTally f t n m = Tally strict f t n 0 0 m
 pub strict-tally : {f : Bytes} {t : Table} {r : ℕ} → 1 ≤ length t → Reading strict f t r → (n : ℕ) × (m : ℕ) × StrictTally f t n m
 strict-tally h (Reading.nothing EmptyFile.empty) = absurd (omega arith)
 strict-tally h (Reading.something {e} p k a q) =
-    (inFile needless p, missing e, rw (none-in-file refl p, no-alones refl p) at (tally p k))
+    (sum_in_file needless p, missing e, rw (none-in-file refl p, no-alones refl p) at (tally p k))
 
 pub one-strict-tally : {f : Bytes} {t : Table} {n m n' m' : ℕ} → StrictTally f t n m → StrictTally f t n' m' → (n ≡ n') × (m ≡ m')
-one-strict-tally x y = let u = one-tally strict tt x y in (u.0, u.3)
+one-strict-tally x y = let u = one_tally strict tt x y in (u.0, u.3)
 
 -- m is 0 if the file ends in a line break, and else 1
 pub strict-ended : {f : Bytes} {t : Table} {n m : ℕ} → StrictTally f t n m → (m ≤ 1) × ((m ≡ 0) ↔ EndsInBreak f)
@@ -47,7 +47,7 @@ strict-length x = omega (arith, length-law strict tt x)
 plain-ended : (t : Table) → 1 ≤ length t → CanHold strict t → EndsInBreak (plain strict t)
 plain-ended [] n h = absurd (omega arith)
 plain-ended (cs ∷ t) n h =
-    let p = lines-read strict tt (plainForm strict) (plain-form-reads strict tt) cs t h.some-field h.none-forbidden in
+    let p = lines-read strict tt (plain_form strict) (plain-form-reads strict tt) cs t h.some_field h.none_forbidden in
     (missing-ended strict tt tt p.0).0 refl
 
 -- of any table of one or more records that strict can hold, the plain form is the one shortest strict file that ends in a line break
@@ -63,4 +63,4 @@ plain-is-shortest-ended t n h =
 -- two strict files have the same plain form exactly when they hold the same table, where each file has one table
 pub same-plain-same-table :
     OneTable strict → {f g : Bytes} {t u : Table} {r s : ℕ} → Reading strict f t r → Reading strict g u s → (plain strict t ≡ plain strict u) ↔ (t ≡ u)
-same-plain-same-table = same-plain strict tt
+same-plain-same-table = same_plain strict tt

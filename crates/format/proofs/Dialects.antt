@@ -10,12 +10,12 @@ use lib.Dec.{T, eqb}
 use lib.ListN.{length, length-append}
 use borrow.Author.Tests.{ne_eqb}
 use Rattle.format.specs.Table.{Bytes, Content, Table, Ending, Every, last_of}
-use Rattle.format.specs.Dialect.{Leniency, lf, blanks, ragged, bytes, Dialect, Class, text, blank, delimiter, quote, CR, LF, forbidden, classOf}
+use Rattle.format.specs.Dialect.{Leniency, lf, blanks, ragged, bytes, Dialect, Class, text, blank, delimiter, quote, CR, LF, forbidden, class_of}
 use Rattle.format.specs.Grammar.{Blanks, Bare, Inside, padded, Open, Quoted, Field, Record, Break, File}
-use Rattle.format.specs.House.{differs, isRagged, EqualRows, Fits, Allowed}
+use Rattle.format.specs.House.{differs, is_ragged, EqualRows, Fits, Allowed}
 use Rattle.format.specs.Memory.{text_of}
-use Rattle.format.specs.Count.{inRecord, inFile, blankCount, dropped, alone, alones, wides, some, uses}
-use Rattle.format.proofs.Classes.{Beside, same, as-text, as-blank, any, beside, quotedClass, quoted-class, inside-byte}
+use Rattle.format.specs.Count.{sum_in_record, sum_in_file, blank_count, dropped, alone, alones, wides, some, uses}
+use Rattle.format.proofs.Classes.{Beside, same, as_text, as_blank, any, beside, quoted_class, quoted-class, inside-byte}
 use Rattle.format.proofs.Memory.{sizes-more}
 use Rattle.format.proofs.Trim.{fitted}
 
@@ -31,41 +31,41 @@ solid forbidden = false
 
 solid-too : {drops : Bool} {x y z : Class} → T (solid z) → x ≡ z → Beside drops x y → y ≡ z
 solid-too t e same = e
-solid-too t e (as-text n) = absurd (rw (← e) at t)
-solid-too t e as-blank = absurd (rw (← e) at t)
+solid-too t e (as_text n) = absurd (rw (← e) at t)
+solid-too t e as_blank = absurd (rw (← e) at t)
 solid-too t e any = absurd (rw (← e) at t)
 
-quoted-too : {drops : Bool} {x y : Class} → T (quotedClass x) → Beside drops x y → T (quotedClass y)
+quoted-too : {drops : Bool} {x y : Class} → T (quoted_class x) → Beside drops x y → T (quoted_class y)
 quoted-too t same = t
-quoted-too t (as-text n) = tt
-quoted-too t as-blank = tt
+quoted-too t (as_text n) = tt
+quoted-too t as_blank = tt
 quoted-too t any = absurd t
 
-not-forbidden : {x : Class} → T (quotedClass x) → forbidden ≡ x → ⊥
+not-forbidden : {x : Class} → T (quoted_class x) → forbidden ≡ x → ⊥
 not-forbidden t e = rw (← e) at t
 
 blank-too : {drops : Bool} {x y : Class} → drops ≡ true → x ≡ blank → Beside drops x y → y ≡ blank
 blank-too k e same = e
-blank-too k e (as-text n) = absurd (true≢false (sym k ∙ n))
-blank-too k e as-blank = refl
+blank-too k e (as_text n) = absurd (true≢false (sym k ∙ n))
+blank-too k e as_blank = refl
 blank-too k e any = absurd (not-forbidden tt e)
 
 bare-too : {drops : Bool} {x y : Class} → (x ≡ text) ⊎ (x ≡ blank) → Beside drops x y → (y ≡ text) ⊎ (y ≡ blank)
 bare-too e same = e
-bare-too e (as-text n) = inl refl
-bare-too e as-blank = inr refl
+bare-too e (as_text n) = inl refl
+bare-too e as_blank = inr refl
 bare-too (inl e) any = absurd (not-forbidden tt e)
 bare-too (inr e) any = absurd (not-forbidden tt e)
 
 bare-more :
     {d : Dialect} {b : ℕ} {f g : Bytes} {c : Content}
-    → (classOf d b ≡ text) ⊎ (classOf d b ≡ blank) → Bare d f c g → Bare d (b ∷ f) (b ∷ c) g
-bare-more (inl k) p = Bare.text-byte k p
-bare-more (inr k) p = Bare.blank-byte k p
+    → (class_of d b ≡ text) ⊎ (class_of d b ≡ blank) → Bare d f c g → Bare d (b ∷ f) (b ∷ c) g
+bare-more (inl k) p = Bare.text_byte k p
+bare-more (inr k) p = Bare.blank_byte k p
 
 -- every byte of f has such classes in d and d'
 abbrev Alike : Dialect → Dialect → Bytes → Type 0
-Alike d d' f = Every (λ b. Beside (d'.allows blanks) (classOf d b) (classOf d' b)) f
+Alike d d' f = Every (λ b. Beside (d'.allows blanks) (class_of d b) (class_of d' b)) f
 
 -- d allows the leniency, if it has n uses and n is not 0
 abbrev Allows : Dialect → Leniency → ℕ → Type 0
@@ -99,7 +99,7 @@ same_differs : {t u : Table} → Shaped t u → (n : ℕ) → differs n u ≡ di
 same_differs Shaped.none n = refl
 same_differs (Shaped.more m s) n = rw (m.many, same_differs s n)
 
-same-ragged : {t u : Table} → Shaped t u → isRagged u ≡ isRagged t
+same-ragged : {t u : Table} → Shaped t u → is_ragged u ≡ is_ragged t
 same-ragged Shaped.none = refl
 same-ragged (Shaped.more m s) = rw m.many (same_differs s _)
 
@@ -131,8 +131,8 @@ no-larger (Shaped.more {cs} {es} {t} {u} m s) =
 module _ (d d' : Dialect) where
   blanks-alike :
       {f g : Bytes} (x : Blanks d f g)
-      → Allows d' blanks (blankCount x) → Alike d d' f → (y : Blanks d' f g) × (blankCount y ≡ blankCount x) × Alike d d' g
-  unfolding blankCount
+      → Allows d' blanks (blank_count x) → Alike d d' f → (y : Blanks d' f g) × (blank_count y ≡ blank_count x) × Alike d d' g
+  unfolding blank_count
   blanks-alike Blanks.none n h = (Blanks.none, refl, h)
   blanks-alike (Blanks.more k x) n h =
       let (y, e, i) = blanks-alike x (λ z. n (omega arith)) h.1 in
@@ -140,14 +140,14 @@ module _ (d d' : Dialect) where
 
   bare_alike : {f g : Bytes} {c : Content} → Bare d f c g → Alike d d' f → Bare d' f c g × Alike d d' g
   bare_alike Bare.none h = (Bare.none, h)
-  bare_alike (Bare.text-byte k p) h = let (q, i) = bare_alike p h.1 in (bare-more (bare-too (inl k) h.0) q, i)
-  bare_alike (Bare.blank-byte k p) h = let (q, i) = bare_alike p h.1 in (bare-more (bare-too (inr k) h.0) q, i)
+  bare_alike (Bare.text_byte k p) h = let (q, i) = bare_alike p h.1 in (bare-more (bare-too (inl k) h.0) q, i)
+  bare_alike (Bare.blank_byte k p) h = let (q, i) = bare_alike p h.1 in (bare-more (bare-too (inr k) h.0) q, i)
 
   inside-alike : {f g : Bytes} {c : Content} → Inside d f c g → Alike d d' f → Inside d' f c g × Alike d d' g
   inside-alike Inside.none h = (Inside.none, h)
   inside-alike (Inside.byte {b} n m p) h =
       let (q, i) = inside-alike p h.1 in
-      (inside-byte (classOf d' b) (quoted-too (quoted-class (classOf d b) n m) h.0) refl q, i)
+      (inside-byte (class_of d' b) (quoted-too (quoted-class (class_of d b) n m) h.0) refl q, i)
   inside-alike (Inside.pair j k p) h =
       let (q, i) = inside-alike p h.1.1 in
       (Inside.pair (solid-too tt j h.0) (solid-too tt k h.1.0) q, i)
@@ -180,13 +180,13 @@ module _ (d d' : Dialect) where
 
   record-alike :
       {f g : Bytes} {cs : List Content} (r : Record d f cs g)
-      → Allows d' blanks (inRecord dropped r) → Alike d d' f
+      → Allows d' blanks (sum_in_record dropped r) → Alike d d' f
       → (es : List Content)
       × (s : Record d' f es g)
       × Slimmer cs es
-      × (NoMoreBlanks d d' → (es ≡ cs) × (inRecord dropped s ≡ inRecord dropped r))
+      × (NoMoreBlanks d d' → (es ≡ cs) × (sum_in_record dropped s ≡ sum_in_record dropped r))
       × Alike d d' g
-  unfolding inRecord flatten
+  unfolding sum_in_record flatten
   record-alike (Record.one {c} p) n h =
       let (e, q, l, s, i) = field_alike p n h in (
         e ∷ [],
@@ -212,17 +212,17 @@ module _ (d d' : Dialect) where
   break-alike : {f g : Bytes} (k : Break d f g) → Allows d' lf (alone k) → Alike d d' f → (j : Break d' f g) × (alone j ≡ alone k) × Alike d d' g
   unfolding alone
   break-alike (Break.crlf j k) n h = (Break.crlf (solid-too tt j h.0) (solid-too tt k h.1.0), refl, h.1.1)
-  break-alike (Break.lf-alone k t) n h = (Break.lf-alone (solid-too tt k h.0) (rw (n (omega arith)) tt), refl, h.1)
+  break-alike (Break.lf_alone k t) n h = (Break.lf_alone (solid-too tt k h.0) (rw (n (omega arith)) tt), refl, h.1)
 
   file-alike :
       {f : Bytes} {t : Table} {e : Ending} (p : File d f t e)
-      → Allows d' lf (alones p) → Allows d' blanks (inFile dropped p) → Alike d d' f
+      → Allows d' lf (alones p) → Allows d' blanks (sum_in_file dropped p) → Alike d d' f
       → (u : Table)
       × (q : File d' f u e)
       × Shaped t u
       × (alones q ≡ alones p)
-      × (NoMoreBlanks d d' → (u ≡ t) × (inFile dropped q ≡ inFile dropped p))
-  unfolding alones inFile
+      × (NoMoreBlanks d d' → (u ≡ t) × (sum_in_file dropped q ≡ sum_in_file dropped p))
+  unfolding alones sum_in_file
   file-alike (File.one r) o n h =
       let (es, s, m, w, i) = record-alike r n h in
       (es ∷ [], File.one s, Shaped.more m Shaped.none, refl, λ z. (λ i. (w z).0 i ∷ [], (w z).1))
@@ -241,7 +241,7 @@ module _ (d d' : Dialect) where
         λ z. (λ i. (w z).0 i ∷ (x z).0 i, λ i. (w z).1 i + (x z).1 i),
       )
 
-module _ (d d' : Dialect) (v : d'.delimiterByte ≡ d.delimiterByte) where
+module _ (d d' : Dialect) (v : d'.delimiter_byte ≡ d.delimiter_byte) where
   same-wides : (f : Bytes) → wides d' f ≡ wides d f
   unfolding wides
   same-wides [] = refl
@@ -252,9 +252,9 @@ module _ (d d' : Dialect) (v : d'.delimiterByte ≡ d.delimiterByte) where
   alike [] n = tt
   alike (b ∷ f) n = (beside d d' b v (λ w. n (rw w (omega arith))), alike f (λ z. n (omega arith)))
 
-  equal-rows-too : {t u : Table} → Shaped t u → (isRagged t ≡ true → d'.allows ragged ≡ true) → EqualRows d' u
+  equal-rows-too : {t u : Table} → Shaped t u → (is_ragged t ≡ true → d'.allows ragged ≡ true) → EqualRows d' u
   unfolding EqualRows
-  equal-rows-too {t} s k = rw (same-ragged s) (go (d'.allows ragged) (isRagged t) k)
+  equal-rows-too {t} s k = rw (same-ragged s) (go (d'.allows ragged) (is_ragged t) k)
     where
       go : (x y : Bool) → (y ≡ true → x ≡ true) → T (x || not y)
       go true y k = tt
@@ -290,7 +290,7 @@ module _ (d d' : Dialect) (v : d'.delimiterByte ≡ d.delimiterByte) where
 -- the same table, with the same uses
 pub same-file :
     {d d' : Dialect} {f : Bytes} {t : Table} {e : Ending} (p : File d f t e)
-    → d'.delimiterByte ≡ d.delimiterByte → ((l : Leniency) → uses p l ≡ true → d'.allows l ≡ true) → NoMoreBlanks d d'
+    → d'.delimiter_byte ≡ d.delimiter_byte → ((l : Leniency) → uses p l ≡ true → d'.allows l ≡ true) → NoMoreBlanks d d'
     → (q : File d' f t e) × (Allowed d t → Allowed d' t) × ((l : Leniency) → uses q l ≡ uses p l)
 same-file {d} {d'} {f} {t} {e} p v k o =
     let (u, q, h, n, a, b, c, w) = file-too d d' v p k in

@@ -5,8 +5,8 @@ use mathlib.Core.Path.{◌≡◌, refl, sym, subst, ◌∙◌}
 use mathlib.Core.Logic.{◌↔◌}
 use mathlib.Core.List.{List, [], ◌∷◌}
 use lib.Dec.{T}
-use Rattle.format.specs.Table.{Bytes, Content, Table, Ending, with-break, without-break, last_of}
-use Rattle.format.specs.Dialect.{Dialect, text, blank, delimiter, quote, LF, classOf, delimits}
+use Rattle.format.specs.Table.{Bytes, Content, Table, Ending, with_break, without_break, last_of}
+use Rattle.format.specs.Dialect.{Dialect, text, blank, delimiter, quote, LF, class_of, delimits}
 use Rattle.format.specs.Grammar.{Blanks, Bare, Inside, opened, Quoted, closed, Field, Record, Break, File}
 use Rattle.format.specs.House.{LastBreak, EndsInBreak}
 use Rattle.format.specs.Count.{missing}
@@ -36,22 +36,22 @@ none_last x g = record { y = x; other = λ o. o; same = refl }
 break-last : {d : Dialect} {g h : Bytes} (x : ℕ) → Break d g h → last_of x g ≡ last_of 0x0A h
 unfolding last_of
 break-last {d} x (Break.crlf {b} j k) = rw (LF-is d b k)
-break-last {d} x (Break.lf-alone {b} j k) = rw (LF-is d b j)
+break-last {d} x (Break.lf_alone {b} j k) = rw (LF-is d b j)
 
-module _ (d : Dialect) (valid : T (delimits d.delimiterByte)) where
-  text-other : (b : ℕ) → classOf d b ≡ text → Other b
+module _ (d : Dialect) (valid : T (delimits d.delimiter_byte)) where
+  text-other : (b : ℕ) → class_of d b ≡ text → Other b
   text-other b k e =
-      let u : classOf d b ≡ LF = rw e (class-LF d valid) in
+      let u : class_of d b ≡ LF = rw e (class-LF d valid) in
       let z : ◌≡◌ {A = ℕ} 0 1 = cc in
       omega arith
 
-  blank-other : (b : ℕ) → classOf d b ≡ blank → Other b
+  blank-other : (b : ℕ) → class_of d b ≡ blank → Other b
   blank-other b k e = omega (arith, (blank-is d b k).0)
 
-  quote-other : (b : ℕ) → classOf d b ≡ quote → Other b
+  quote-other : (b : ℕ) → class_of d b ≡ quote → Other b
   quote-other b k e = omega (arith, quote-is d b k)
 
-  delimiter-other : (b : ℕ) → classOf d b ≡ delimiter → Other b
+  delimiter-other : (b : ℕ) → class_of d b ≡ delimiter → Other b
   delimiter-other b k e = subst (λ (n : ℕ). T (delimits n)) (sym (delimiter-is d b k) ∙ e) valid
 
   blanks-last : {f g : Bytes} (x : ℕ) → Blanks d f g → Last x f g
@@ -60,8 +60,8 @@ module _ (d : Dialect) (valid : T (delimits d.delimiterByte)) where
 
   bare-last : {f g : Bytes} {c : Content} (x : ℕ) → Bare d f c g → Last x f g
   bare-last {g} x Bare.none = none_last x g
-  bare-last x (Bare.text-byte {b} k r) = begun x (text-other b k) (bare-last b r)
-  bare-last x (Bare.blank-byte {b} k r) = begun x (blank-other b k) (bare-last b r)
+  bare-last x (Bare.text_byte {b} k r) = begun x (text-other b k) (bare-last b r)
+  bare-last x (Bare.blank_byte {b} k r) = begun x (blank-other b k) (bare-last b r)
 
   -- an LF may stand inside quotes, and the closing quote comes behind it
   inside-last : {f g : Bytes} {c : Content} (x : ℕ) → Inside d f c g → (y : ℕ) × (last_of x f ≡ last_of y g)
@@ -83,7 +83,7 @@ module _ (d : Dialect) (valid : T (delimits d.delimiterByte)) where
   record-last x (Record.more {b} p k r) = last_then (field-last x p) λ y. begun y (delimiter-other b k) (record-last b r)
 
   -- a record that no line break ends
-  open-last : {cs : List Content} (x : ℕ) (f : Bytes) → LastBreak (without-break f) → Record d f cs [] → Other (last_of x f)
+  open-last : {cs : List Content} (x : ℕ) (f : Bytes) → LastBreak (without_break f) → Record d f cs [] → Other (last_of x f)
   unfolding last_of
   open-last x (b ∷ f) n r = let l = record-last 0 r in λ z. l.other (λ u. omega arith) (sym l.same ∙ z)
 
@@ -93,10 +93,10 @@ module _ (d : Dialect) (valid : T (delimits d.delimiterByte)) where
 
 -- what an ending says of the last byte
 abbrev LastByte : Ending → ℕ → Type 0
-LastByte with-break n = n ≡ 0x0A
-LastByte (without-break f) n = Other n
+LastByte with_break n = n ≡ 0x0A
+LastByte (without_break f) n = Other n
 
-module _ (d : Dialect) (valid : T (delimits d.delimiterByte)) where
+module _ (d : Dialect) (valid : T (delimits d.delimiter_byte)) where
   file-last : {f : Bytes} {t : Table} {e : Ending} (x : ℕ) → LastBreak e → File d f t e → LastByte e (last_of x f)
   unfolding last_of
   file-last x l (File.one {f} r) = open-last d valid x f l r
@@ -108,9 +108,9 @@ module _ (d : Dialect) (valid : T (delimits d.delimiterByte)) where
   missing-ended {f} {e} l p = go e (file-last 0 l p)
     where
       go : (e : Ending) → LastByte e (last_of 0 f) → (missing e ≡ 0) ↔ EndsInBreak f
-      go with-break s = (λ _. s, λ _. refl)
-      go (without-break g) s = (λ n. absurd (omega arith), λ n. absurd (s n))
+      go with_break s = (λ _. s, λ _. refl)
+      go (without_break g) s = (λ n. absurd (omega arith), λ n. absurd (s n))
 
 pub missing-le : (e : Ending) → missing e ≤ 1
-missing-le with-break = omega arith
-missing-le (without-break f) = omega arith
+missing-le with_break = omega arith
+missing-le (without_break f) = omega arith

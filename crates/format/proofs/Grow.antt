@@ -5,9 +5,9 @@ use mathlib.Core.Path.{◌≡◌, refl, ap, subst, ◌∙◌}
 use mathlib.Core.List.{List, [], ◌∷◌, ◌++◌}
 use lib.ListN.{replicate}
 use Rattle.format.specs.Table.{Bytes, Content, Table}
-use Rattle.format.specs.Dialect.{Dialect, blank, classOf}
+use Rattle.format.specs.Dialect.{Dialect, blank, class_of}
 use Rattle.format.specs.Grammar.{Blanks, Bare, Inside, Open, opened, Quoted, closed, Field, Record, Break}
-use Rattle.format.specs.Count.{blankCount}
+use Rattle.format.specs.Count.{blank_count}
 use Rattle.format.specs.Refusal.{Fields, Records}
 use Rattle.format.proofs.Classes.{blank-is}
 
@@ -16,15 +16,15 @@ module _ (d : Dialect) (s : Bytes) where
   blanks-grow Blanks.none = Blanks.none
   blanks-grow (Blanks.more e x) = Blanks.more e (blanks-grow x)
 
-  pub grow-count : {f g : Bytes} (y : Blanks d f g) → blankCount (blanks-grow y) ≡ blankCount y
-  unfolding blankCount blanks-grow
+  pub grow-count : {f g : Bytes} (y : Blanks d f g) → blank_count (blanks-grow y) ≡ blank_count y
+  unfolding blank_count blanks-grow
   grow-count Blanks.none = refl
   grow-count (Blanks.more e y) = ap suc (grow-count y)
 
   pub bare-grow : {f g : Bytes} {c : Content} → Bare d f c g → Bare d (f ++ s) c (g ++ s)
   bare-grow Bare.none = Bare.none
-  bare-grow (Bare.text-byte e x) = Bare.text-byte e (bare-grow x)
-  bare-grow (Bare.blank-byte e x) = Bare.blank-byte e (bare-grow x)
+  bare-grow (Bare.text_byte e x) = Bare.text_byte e (bare-grow x)
+  bare-grow (Bare.blank_byte e x) = Bare.blank_byte e (bare-grow x)
 
   pub inside-grow : {f g : Bytes} {c : Content} → Inside d f c g → Inside d (f ++ s) c (g ++ s)
   inside-grow Inside.none = Inside.none
@@ -47,7 +47,7 @@ module _ (d : Dialect) (s : Bytes) where
 
   pub break-grow : {f g : Bytes} → Break d f g → Break d (f ++ s) (g ++ s)
   break-grow (Break.crlf e i) = Break.crlf e i
-  break-grow (Break.lf-alone e i) = Break.lf-alone e i
+  break-grow (Break.lf_alone e i) = Break.lf_alone e i
 
   pub fields-grow : {f g : Bytes} {cs : List Content} → Fields d f cs g → Fields d (f ++ s) cs (g ++ s)
   fields-grow Fields.none = Fields.none
@@ -64,8 +64,8 @@ module _ (d : Dialect) where
 
   pub bare-join : {f g h : Bytes} {c e : Content} → Bare d f c g → Bare d g e h → Bare d f (c ++ e) h
   bare-join Bare.none y = y
-  bare-join (Bare.text-byte e x) y = Bare.text-byte e (bare-join x y)
-  bare-join (Bare.blank-byte e x) y = Bare.blank-byte e (bare-join x y)
+  bare-join (Bare.text_byte e x) y = Bare.text_byte e (bare-join x y)
+  bare-join (Bare.blank_byte e x) y = Bare.blank_byte e (bare-join x y)
 
   pub inside-join : {f g h : Bytes} {c e : Content} → Inside d f c g → Inside d g e h → Inside d f (c ++ e) h
   inside-join Inside.none y = y
@@ -73,15 +73,15 @@ module _ (d : Dialect) where
   inside-join (Inside.pair u v x) y = Inside.pair u v (inside-join x y)
 
   -- blanks before more of a bare field
-  pub blanks-bare : {f g h : Bytes} {e : Content} (y : Blanks d f g) → Bare d g e h → Bare d f (replicate (blankCount y) 0x20 ++ e) h
-  unfolding blankCount
+  pub blanks-bare : {f g h : Bytes} {e : Content} (y : Blanks d f g) → Bare d g e h → Bare d f (replicate (blank_count y) 0x20 ++ e) h
+  unfolding blank_count
   blanks-bare Blanks.none k = k
   blanks-bare {h} {e = c} (Blanks.more {b} {f} e y) k =
-      subst (λ (a : ℕ). Bare d (b ∷ f) (a ∷ (replicate (blankCount y) 0x20 ++ c)) h) (blank-is d b e).0 (Bare.blank-byte e (blanks-bare y k))
+      subst (λ (a : ℕ). Bare d (b ∷ f) (a ∷ (replicate (blank_count y) 0x20 ++ c)) h) (blank-is d b e).0 (Bare.blank_byte e (blanks-bare y k))
 
   -- one blank more is counted
-  pub blanks-count : {f : Bytes} (b : ℕ) (y : Blanks d f []) (e : classOf d b ≡ blank) → blankCount (blanks-join (blanks-grow d (b ∷ []) y) (Blanks.more e Blanks.none)) ≡ blankCount y + 1
-  unfolding blankCount blanks-join blanks-grow
+  pub blanks-count : {f : Bytes} (b : ℕ) (y : Blanks d f []) (e : class_of d b ≡ blank) → blank_count (blanks-join (blanks-grow d (b ∷ []) y) (Blanks.more e Blanks.none)) ≡ blank_count y + 1
+  unfolding blank_count blanks-join blanks-grow
   blanks-count b Blanks.none e = refl
   blanks-count b (Blanks.more i y) e = ap suc (blanks-count b y e) ∙ omega arith
 
@@ -109,8 +109,8 @@ module _ (d : Dialect) (u : Bytes) where
 
   pub bare-cut : {f g : Bytes} {c : Content} (g₀ : Bytes) → Bare d f c g → g ≡ g₀ ++ u → Cut (λ f g. Bare d f c g) u f g₀
   bare-cut g₀ Bare.none q = (g₀, q, Bare.none)
-  bare-cut g₀ (Bare.text-byte {b} e x) q = let (f₀, i, y) = bare-cut g₀ x q in (b ∷ f₀, ap (λ (l : Bytes). b ∷ l) i, Bare.text-byte e y)
-  bare-cut g₀ (Bare.blank-byte {b} e x) q = let (f₀, i, y) = bare-cut g₀ x q in (b ∷ f₀, ap (λ (l : Bytes). b ∷ l) i, Bare.blank-byte e y)
+  bare-cut g₀ (Bare.text_byte {b} e x) q = let (f₀, i, y) = bare-cut g₀ x q in (b ∷ f₀, ap (λ (l : Bytes). b ∷ l) i, Bare.text_byte e y)
+  bare-cut g₀ (Bare.blank_byte {b} e x) q = let (f₀, i, y) = bare-cut g₀ x q in (b ∷ f₀, ap (λ (l : Bytes). b ∷ l) i, Bare.blank_byte e y)
 
   pub inside-cut : {f g : Bytes} {c : Content} (g₀ : Bytes) → Inside d f c g → g ≡ g₀ ++ u → Cut (λ f g. Inside d f c g) u f g₀
   inside-cut g₀ Inside.none q = (g₀, q, Inside.none)
@@ -144,7 +144,7 @@ module _ (d : Dialect) (u : Bytes) where
 
   pub break-cut : {f g : Bytes} (g₀ : Bytes) → Break d f g → g ≡ g₀ ++ u → Cut (Break d) u f g₀
   break-cut g₀ (Break.crlf {a} {b} e i) q = (a ∷ b ∷ g₀, ap (λ (l : Bytes). a ∷ b ∷ l) q, Break.crlf e i)
-  break-cut g₀ (Break.lf-alone {b} e i) q = (b ∷ g₀, ap (λ (l : Bytes). b ∷ l) q, Break.lf-alone e i)
+  break-cut g₀ (Break.lf_alone {b} e i) q = (b ∷ g₀, ap (λ (l : Bytes). b ∷ l) q, Break.lf_alone e i)
 
   pub fields-cut : {f g : Bytes} {cs : List Content} (g₀ : Bytes) → Fields d f cs g → g ≡ g₀ ++ u → Cut (λ f g. Fields d f cs g) u f g₀
   fields-cut g₀ Fields.none q = (g₀, q, Fields.none)

@@ -8,8 +8,8 @@ use lib.Dec.{T, eqb}
 use lib.ListN.{length}
 use borrow.Author.Tests.{eqb-true, eqb-false}
 use Rattle.format.specs.Table.{Content, Table, Every, None}
-use Rattle.format.specs.Dialect.{Dialect, ragged, forbidden, classOf}
-use Rattle.format.specs.House.{width_of, differs, EqualRows, contentLimit, Fits}
+use Rattle.format.specs.Dialect.{Dialect, ragged, forbidden, class_of}
+use Rattle.format.specs.House.{width_of, differs, EqualRows, content_limit, Fits}
 use Rattle.format.specs.Memory.{text_of}
 use Rattle.format.specs.WrittenForms.{CanHold}
 use Rattle.format.proofs.Every.{every-each, each-every, every-so}
@@ -33,10 +33,10 @@ differs_none n (cs ∷ t) e = go (eqb (length cs) n) refl e (differs_none n t)
 
 module _ (d : Dialect) where
   abbrev Allowing : ℕ → Type 0
-  Allowing b = classOf d b ≡ forbidden → ⊥
+  Allowing b = class_of d b ≡ forbidden → ⊥
 
   abbrev Short : Content → Type 0
-  Short c = contentLimit < length c → ⊥
+  Short c = content_limit < length c → ⊥
 
   equal-rows : (t : Table) → None (λ cs. length cs ≡ width_of t → ⊥) t → EqualRows d t
   unfolding EqualRows
@@ -54,22 +54,22 @@ module _ (d : Dialect) where
       go false false n h = refl
 
   pub holds :
-      (t : Table) → Every (λ cs. 1 ≤ length cs) t → None (λ b. classOf d b ≡ forbidden) (text_of t) → None (λ c. contentLimit < length c) (flatten t)
+      (t : Table) → Every (λ cs. 1 ≤ length cs) t → None (λ b. class_of d b ≡ forbidden) (text_of t) → None (λ c. content_limit < length c) (flatten t)
       → None (λ cs. length cs ≡ width_of t → ⊥) t → CanHold d t
   holds t fields bytes contents rows =
       record {
-        some-field = fields;
-        none-forbidden = every-each (Every Allowing) t (every-each Allowing (flatten t) bytes);
+        some_field = fields;
+        none_forbidden = every-each (Every Allowing) t (every-each Allowing (flatten t) bytes);
         rules = record {
           rows = equal-rows t rows;
           contents = every-each Fits t (every-so Short Fits (λ c h. omega (arith, h)) (flatten t) contents);
         };
       }
 
-  pub holds-bytes : {t : Table} → CanHold d t → None (λ b. classOf d b ≡ forbidden) (text_of t)
-  holds-bytes {t} h = each-every Allowing (flatten t) (each-every (Every Allowing) t h.none-forbidden)
+  pub holds-bytes : {t : Table} → CanHold d t → None (λ b. class_of d b ≡ forbidden) (text_of t)
+  holds-bytes {t} h = each-every Allowing (flatten t) (each-every (Every Allowing) t h.none_forbidden)
 
-  pub holds-contents : {t : Table} → CanHold d t → None (λ c. contentLimit < length c) (flatten t)
+  pub holds-contents : {t : Table} → CanHold d t → None (λ c. content_limit < length c) (flatten t)
   holds-contents {t} h = every-so Fits Short (λ c i k. omega (arith, i)) (flatten t) (each-every Fits t h.rules.contents)
 
   pub holds_rows : {t : Table} → d.allows ragged ≡ false → CanHold d t → None (λ cs. length cs ≡ width_of t → ⊥) t

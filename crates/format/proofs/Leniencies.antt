@@ -9,17 +9,17 @@ use native.Mathlib.Omega.{arith}
 use lib.Dec.{T, eqb}
 use borrow.Author.Tests.{ne_eqb}
 use Rattle.format.specs.Table.{Bytes, Content, Table, Ending}
-use Rattle.format.specs.Dialect.{Leniency, lf, blanks, ragged, bytes, Dialect, names, dialect, strict, onlyWide, Class, forbidden, classOf}
+use Rattle.format.specs.Dialect.{Leniency, lf, blanks, ragged, bytes, Dialect, names, dialect, strict, only_wide, Class, forbidden, class_of}
 use Rattle.format.specs.Grammar.{Blanks, Bare, Inside, Open, Quoted, Field, Record, Break, File}
-use Rattle.format.specs.House.{isRagged, EqualRows, Allowed}
-use Rattle.format.specs.Count.{inRecord, inFile, blankCount, dropped, alone, alones, wides, some, uses, sum_of, reportOf}
+use Rattle.format.specs.House.{is_ragged, EqualRows, Allowed}
+use Rattle.format.specs.Count.{sum_in_record, sum_in_file, blank_count, dropped, alone, alones, wides, some, uses, sum_of, report_of}
 use Rattle.format.specs.Reading.{Reading}
-use Rattle.format.proofs.Classes.{blank-is, quotedClass, not_wide}
+use Rattle.format.proofs.Classes.{blank-is, quoted_class, not_wide}
 use Rattle.format.proofs.Dialects.{solid, NoMoreBlanks, NoLarger, as-large, file-too, same-file}
 
 -- what holds of no bytes, and stays so with each byte before them that is not forbidden, holds of a file
-module _ (d : Dialect) (P : Bytes → Type 0) (step : (b : ℕ) (f : Bytes) → (classOf d b ≡ forbidden → ⊥) → P f → P (b ∷ f)) where
-  of-class : {b : ℕ} {x : Class} {f : Bytes} → T (quotedClass x || solid x) → classOf d b ≡ x → P f → P (b ∷ f)
+module _ (d : Dialect) (P : Bytes → Type 0) (step : (b : ℕ) (f : Bytes) → (class_of d b ≡ forbidden → ⊥) → P f → P (b ∷ f)) where
+  of-class : {b : ℕ} {x : Class} {f : Bytes} → T (quoted_class x || solid x) → class_of d b ≡ x → P f → P (b ∷ f)
   of-class {b} {f} t k = step b f (λ e. rw (sym k ∙ e) at t)
 
   of-blanks : {f g : Bytes} → Blanks d f g → P g → P f
@@ -28,8 +28,8 @@ module _ (d : Dialect) (P : Bytes → Type 0) (step : (b : ℕ) (f : Bytes) → 
 
   of_bare : {f g : Bytes} {c : Content} → Bare d f c g → P g → P f
   of_bare Bare.none h = h
-  of_bare (Bare.text-byte k p) h = of-class tt k (of_bare p h)
-  of_bare (Bare.blank-byte k p) h = of-class tt k (of_bare p h)
+  of_bare (Bare.text_byte k p) h = of-class tt k (of_bare p h)
+  of_bare (Bare.blank_byte k p) h = of-class tt k (of_bare p h)
 
   of-inside : {f g : Bytes} {c : Content} → Inside d f c g → P g → P f
   of-inside Inside.none h = h
@@ -46,7 +46,7 @@ module _ (d : Dialect) (P : Bytes → Type 0) (step : (b : ℕ) (f : Bytes) → 
 
   of-break : {f g : Bytes} → Break d f g → P g → P f
   of-break (Break.crlf j k) h = of-class tt j (of-class tt k h)
-  of-break (Break.lf-alone k t) h = of-class tt k h
+  of-break (Break.lf_alone k t) h = of-class tt k h
 
   of-file : {f : Bytes} {t : Table} {e : Ending} → File d f t e → P [] → P f
   of-file (File.one r) h = of-record r h
@@ -63,9 +63,9 @@ pub no-byte-wide : (d : Dialect) → some (wides d []) ≡ false
 unfolding wides
 no-byte-wide d = refl
 
-pub some-wide : (d : Dialect) (b : ℕ) (f : Bytes) → some (wides d (b ∷ f)) ≡ ((onlyWide d.delimiterByte b) || some (wides d f))
+pub some-wide : (d : Dialect) (b : ℕ) (f : Bytes) → some (wides d (b ∷ f)) ≡ ((only_wide d.delimiter_byte b) || some (wides d f))
 unfolding wides
-some-wide d b f = go (onlyWide d.delimiterByte b)
+some-wide d b f = go (only_wide d.delimiter_byte b)
   where
     go : (x : Bool) → some (cond x 1 0 + wides d f) ≡ (x || some (wides d f))
     go true = rw (ne_eqb (1 + wides d f) 0 (λ e. omega arith))
@@ -76,7 +76,7 @@ module _ {d : Dialect} (off : d.allows lf ≡ false) where
   no-alone : {f g : Bytes} (k : Break d f g) → alone k ≡ 0
   unfolding alone
   no-alone (Break.crlf j k) = refl
-  no-alone (Break.lf-alone k t) = absurd (rw off at t)
+  no-alone (Break.lf_alone k t) = absurd (rw off at t)
 
   pub no-alones : {f : Bytes} {t : Table} {e : Ending} (p : File d f t e) → alones p ≡ 0
   unfolding alones
@@ -86,8 +86,8 @@ module _ {d : Dialect} (off : d.allows lf ≡ false) where
 
 -- where "blanks" is off, no blank is dropped
 module _ {d : Dialect} (off : d.allows blanks ≡ false) where
-  no-blank : {f g : Bytes} (x : Blanks d f g) → blankCount x ≡ 0
-  unfolding blankCount
+  no-blank : {f g : Bytes} (x : Blanks d f g) → blank_count x ≡ 0
+  unfolding blank_count
   no-blank Blanks.none = refl
   no-blank (Blanks.more {b} k x) = absurd (rw off at (blank-is d b k).1)
 
@@ -96,20 +96,20 @@ module _ {d : Dialect} (off : d.allows blanks ≡ false) where
   none_dropped (Field.bare x k e y) = ap₂ ◌+◌ (no-blank x) (no-blank y)
   none_dropped (Field.quoted x k y) = ap₂ ◌+◌ (no-blank x) (no-blank y)
 
-  none-in-record : {f g : Bytes} {cs : List Content} (r : Record d f cs g) → inRecord dropped r ≡ 0
-  unfolding inRecord
+  none-in-record : {f g : Bytes} {cs : List Content} (r : Record d f cs g) → sum_in_record dropped r ≡ 0
+  unfolding sum_in_record
   none-in-record (Record.one p) = none_dropped p
   none-in-record (Record.more p k r) = ap₂ ◌+◌ (none_dropped p) (none-in-record r)
 
-  pub none-in-file : {f : Bytes} {t : Table} {e : Ending} (p : File d f t e) → inFile dropped p ≡ 0
-  unfolding inFile
+  pub none-in-file : {f : Bytes} {t : Table} {e : Ending} (p : File d f t e) → sum_in_file dropped p ≡ 0
+  unfolding sum_in_file
   none-in-file (File.one r) = none-in-record r
   none-in-file (File.ended r k) = none-in-record r
   none-in-file (File.more r k p) = ap₂ ◌+◌ (none-in-record r) (none-in-file p)
 
-equal-rows : (d : Dialect) (t : Table) → d.allows ragged ≡ false → EqualRows d t → isRagged t ≡ false
+equal-rows : (d : Dialect) (t : Table) → d.allows ragged ≡ false → EqualRows d t → is_ragged t ≡ false
 unfolding EqualRows
-equal-rows d t off h = go (isRagged t) (rw off at h)
+equal-rows d t off h = go (is_ragged t) (rw off at h)
   where
     go : (x : Bool) → T (not x) → x ≡ false
     go true z = absurd z
@@ -171,7 +171,7 @@ report-most (Reading.something p b a q) = rw (← q) (sum-most (uses p))
 
 -- what the report names is what was used
 report-names :
-    {d : Dialect} {f : Bytes} {t : Table} {e : Ending} {r : ℕ} (p : File d f t e) → reportOf p ≡ r → (l : Leniency) → names r l ≡ uses p l
+    {d : Dialect} {f : Bytes} {t : Table} {e : Ending} {r : ℕ} (p : File d f t e) → report_of p ≡ r → (l : Leniency) → names r l ≡ uses p l
 report-names p q l = rw (← q) (sum-names (uses p) l)
 
 none_named : (l : Leniency) → names 0 l ≡ true → ⊥
@@ -189,18 +189,18 @@ report-allowed {d} (Reading.something p b a q) l n = go (d.allows l) refl
 -- only what the report names matters: another dialect that allows it, and drops no more blanks, reads the same
 pub same-reading :
     {d d' : Dialect} {f : Bytes} {t : Table} {r : ℕ} → Reading d f t r
-    → d'.delimiterByte ≡ d.delimiterByte → ((l : Leniency) → names r l ≡ true → d'.allows l ≡ true) → NoMoreBlanks d d' → Reading d' f t r
+    → d'.delimiter_byte ≡ d.delimiter_byte → ((l : Leniency) → names r l ≡ true → d'.allows l ≡ true) → NoMoreBlanks d d' → Reading d' f t r
 same-reading (Reading.nothing h) v k o = Reading.nothing h
 same-reading (Reading.something p b a q) v k o =
     let (p', h, s) = same-file p v (λ l e. k l (report-names p q l ∙ e)) o in
     Reading.something p' b (h a) (ap sum_of (fun_ext s) ∙ q)
 
 -- so the dialect whose sum is the report reads the same
-pub by-report : {d : Dialect} {f : Bytes} {t : Table} {r : ℕ} → Reading d f t r → Reading (dialect d.delimiterByte r) f t r
+pub by-report : {d : Dialect} {f : Bytes} {t : Table} {r : ℕ} → Reading d f t r → Reading (dialect d.delimiter_byte r) f t r
 by-report g = same-reading g refl (λ l e. e) (report-allowed g blanks)
 
 -- accepted with comma and report 0 means that strict accepts it with the same table
-pub report-0-strict : (d : Dialect) → d.delimiterByte ≡ 0x2C → {f : Bytes} {t : Table} → Reading d f t 0 → Reading strict f t 0
+pub report-0-strict : (d : Dialect) → d.delimiter_byte ≡ 0x2C → {f : Bytes} {t : Table} → Reading d f t 0 → Reading strict f t 0
 report-0-strict d v {f} {t} g = subst (λ (b : ℕ). Reading (dialect b 0) f t 0) v (by-report g)
 
 blanks-or-not :
@@ -217,13 +217,13 @@ blanks-or-not x y a b c (inr e) q = rw (← q, a, b, c, e) (go (x blanks) _ _)
 -- a dialect that allows what the report names reads the file even if it drops more blanks; it reports the same, or "blanks" besides, and its table needs no
 -- more room
 pub more-lenient :
-    (d d' : Dialect) → d'.delimiterByte ≡ d.delimiterByte
+    (d d' : Dialect) → d'.delimiter_byte ≡ d.delimiter_byte
     → {f : Bytes} {t : Table} {r : ℕ} → Reading d f t r → ((l : Leniency) → names r l ≡ true → d'.allows l ≡ true)
     → (u : Table) × (n : ℕ) × Reading d' f u n × ((n ≡ r) ⊎ (n ≡ r + 2)) × NoLarger u t
 more-lenient d d' v {t} (Reading.nothing h) k = (t, 0, Reading.nothing h, inl refl, as-large t)
 more-lenient d d' v {r} (Reading.something p b a q) k =
     let (u, p', h, m, x, y, z, w) = file-too d d' v p (λ l e. k l (report-names p q l ∙ e)) in
-    (u, reportOf p', Reading.something p' b (h a) refl, blanks-or-not (uses p') (uses p) x y z (go (d.allows blanks) refl (λ o. (w o).1)) q, m)
+    (u, report_of p', Reading.something p' b (h a) refl, blanks-or-not (uses p') (uses p) x y z (go (d.allows blanks) refl (λ o. (w o).1)) q, m)
   where
     go : (x : Bool) {A : Type 0} → d.allows blanks ≡ x → (NoMoreBlanks d d' → A) → A ⊎ (uses p blanks ≡ false)
     go true e w = inl (w (λ i. e))
@@ -231,6 +231,6 @@ more-lenient d d' v {r} (Reading.something p b a q) k =
 
 -- what strict reads, every comma dialect reads, and reports 0, or 2 where it drops a blank; it needs no more room
 pub strict-lenient :
-    (d : Dialect) → d.delimiterByte ≡ 0x2C
+    (d : Dialect) → d.delimiter_byte ≡ 0x2C
     → {f : Bytes} {t : Table} {r : ℕ} → Reading strict f t r → (u : Table) × (n : ℕ) × Reading d f u n × ((n ≡ 0) ⊎ (n ≡ 2)) × NoLarger u t
 strict-lenient d v g = more-lenient strict d v (rw (strict-report g) at g) (λ l n. absurd (none_named l n))

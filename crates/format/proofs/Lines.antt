@@ -12,11 +12,11 @@ use borrow.Author.Tests.{ne_eqb}
 use Rattle.format.specs.Table.{Bytes, Content}
 use Rattle.format.specs.Dialect.{Dialect}
 use Rattle.format.specs.Memory.{parts}
-use Rattle.format.specs.WrittenForms.{isSpecial, holdsSpecial, needsQuotes, doubled, quotedForm, plainForm, recordBy, tableBy}
+use Rattle.format.specs.WrittenForms.{is_special, holds_special, needs_quotes, doubled, quoted_form, plain_form, record_by, table_by}
 
 module _ (form : Content → Bytes) (d : Dialect) (fields : List Content) where
-  record-more : (c : Content) (cs : List Content) → 1 ≤ length cs → recordBy form d (c ∷ cs) ≡ form c ++ (d.delimiterByte ∷ recordBy form d cs)
-  unfolding recordBy
+  record-more : (c : Content) (cs : List Content) → 1 ≤ length cs → record_by form d (c ∷ cs) ≡ form c ++ (d.delimiter_byte ∷ record_by form d cs)
+  unfolding record_by
   record-more c [] h = absurd (omega arith)
   record-more c (e ∷ cs) h = refl
 
@@ -24,8 +24,8 @@ module _ (form : Content → Bytes) (d : Dialect) (fields : List Content) where
   pub line-ends :
       (k : ℕ) (rows : List ℕ)
       → k < length fields
-      → tableBy form d (parts k fields ((k + 1) ∷ rows)) ≡ form (get_or fields k []) ++ (0x0D ∷ 0x0A ∷ tableBy form d (parts (k + 1) fields rows))
-  unfolding parts tableBy recordBy
+      → table_by form d (parts k fields ((k + 1) ∷ rows)) ≡ form (get_or fields k []) ++ (0x0D ∷ 0x0A ∷ table_by form d (parts (k + 1) fields rows))
+  unfolding parts table_by record_by
   line-ends k rows h =
       let e : slice k (suc k) fields ≡ get_or fields k [] ∷ slice (suc k) (suc k) fields = slice-cons k (suc k) fields [] (omega arith) (omega arith) in
       rw (add-one, e, slice_empty)
@@ -33,29 +33,29 @@ module _ (form : Content → Bytes) (d : Dialect) (fields : List Content) where
   pub line-goes-on :
       (k next : ℕ) (rows : List ℕ)
       → k + 1 < next → next ≤ length fields
-      → tableBy form d (parts k fields (next ∷ rows)) ≡ form (get_or fields k []) ++ (d.delimiterByte ∷ tableBy form d (parts (k + 1) fields (next ∷ rows)))
-  unfolding parts tableBy
+      → table_by form d (parts k fields (next ∷ rows)) ≡ form (get_or fields k []) ++ (d.delimiter_byte ∷ table_by form d (parts (k + 1) fields (next ∷ rows)))
+  unfolding parts table_by
   line-goes-on k next rows h i =
       let more : 1 ≤ length (slice (suc k) next fields) = rw length-slice (omega arith) in
       let e : slice k next fields ≡ get_or fields k [] ∷ slice (suc k) next fields = slice-cons k next fields [] (omega arith) i in
       rw (add-one, e, record-more (get_or fields k []) (slice (suc k) next fields) more, append_assoc)
 
-  pub lines_end : (k : ℕ) → tableBy form d (parts k fields []) ≡ []
-  unfolding parts tableBy
+  pub lines_end : (k : ℕ) → table_by form d (parts k fields []) ≡ []
+  unfolding parts table_by
   lines_end k = refl
 
 -- whether a content holds a special byte, found byte by byte
 module _ (d : Dialect) where
-  pub special-holds : (b : ℕ) (c : Content) → isSpecial d b ≡ true → holdsSpecial d (b ∷ c) ≡ true
-  unfolding holdsSpecial
+  pub special-holds : (b : ℕ) (c : Content) → is_special d b ≡ true → holds_special d (b ∷ c) ≡ true
+  unfolding holds_special
   special-holds b c e = rw e
 
-  pub ordinary-holds : (b : ℕ) (c : Content) → isSpecial d b ≡ false → holdsSpecial d (b ∷ c) ≡ holdsSpecial d c
-  unfolding holdsSpecial
+  pub ordinary-holds : (b : ℕ) (c : Content) → is_special d b ≡ false → holds_special d (b ∷ c) ≡ holds_special d c
+  unfolding holds_special
   ordinary-holds b c e = rw e
 
-  pub nothing-holds : holdsSpecial d [] ≡ false
-  unfolding holdsSpecial
+  pub nothing-holds : holds_special d [] ≡ false
+  unfolding holds_special
   nothing-holds = refl
 
 -- the content of a field, written byte by byte
@@ -67,12 +67,12 @@ pub doubled-other : (b : ℕ) (c : Content) → (b ≡ 0x22 → ⊥) → doubled
 unfolding doubled
 doubled-other b c n = rw (ne_eqb b 0x22 n)
 
-pub quoted-content : (c : Content) → quotedForm c ≡ 0x22 ∷ (doubled c ++ (0x22 ∷ []))
-unfolding quotedForm
+pub quoted-content : (c : Content) → quoted_form c ≡ 0x22 ∷ (doubled c ++ (0x22 ∷ []))
+unfolding quoted_form
 quoted-content c = refl
 
-pub plain-content : (d : Dialect) (c : Content) → plainForm d c ≡ cond (needsQuotes d c) (quotedForm c) c
-unfolding plainForm
+pub plain-content : (d : Dialect) (c : Content) → plain_form d c ≡ cond (needs_quotes d c) (quoted_form c) c
+unfolding plain_form
 plain-content d c = refl
 
 pub doubled-none : doubled [] ≡ []

@@ -9,7 +9,7 @@ use lib.ListN.{length, take, drop, get_or, length-append, take-append-drop, drop
 use lib.Seq.{slice, drop-cons, length-slice, length-take-le, take-nil, take_all, take_at, drop_at, drop-nil, drop-length, drop-append-le, get_or-take, get_or-drop}
 use Rattle.format.specs.Table.{Bytes, Content, Table, Every, last_of}
 use Rattle.format.specs.House.{width_of}
-use Rattle.format.specs.Memory.{lengths, text_of, endsOf, rows_of, Ordered, WellFormed, parts, gaps, table_of, start_of, part_of}
+use Rattle.format.specs.Memory.{lengths, text_of, ends_of, rows_of, Ordered, WellFormed, parts, gaps, table_of, start_of, part_of}
 
 pub rising-never-falls : (n : ℕ) (ms : List ℕ) → Ordered ◌<◌ n ms → Ordered ◌≤◌ n ms
 rising-never-falls n [] r = tt
@@ -192,27 +192,27 @@ rising-count n [] r = omega arith
 rising-count n (m ∷ ms) r = omega (arith, rising-count m ms r.1)
 
 -- the demand on no rows follows from the others
-pub well-formed :
+pub well_formed :
     {text : Bytes} {ends rows : List ℕ}
     → Ordered ◌<◌ 0 rows → last_of 0 rows ≡ length ends → Ordered ◌≤◌ 0 ends → last_of 0 ends ≡ length text → WellFormed text ends rows
 unfolding last_of
-well-formed {text} {ends} rise last_row never-fall last_end =
+well_formed {text} {ends} rise last_row never-fall last_end =
     record {
-      rows-rise = rise;
+      rows_rise = rise;
       last_row = last_row;
-      ends-never-fall = never-fall;
+      ends_never_fall = never-fall;
       last_end = last_end;
       no_rows = λ e.
-          let no-ends : ends ≡ [] = sym (take_all 0 ends (omega (arith, rw e at last_row))) in
-          (no-ends, sym (take_all 0 text (omega (arith, rw no-ends at last_end))));
+          let no_ends : ends ≡ [] = sym (take_all 0 ends (omega (arith, rw e at last_row))) in
+          (no_ends, sym (take_all 0 text (omega (arith, rw no_ends at last_end))));
     }
 
-pub table-well-formed : (t : Table) → Every (λ cs. 1 ≤ length cs) t → WellFormed (text_of t) (endsOf t) (rows_of t)
+pub table-well-formed : (t : Table) → Every (λ cs. 1 ≤ length cs) t → WellFormed (text_of t) (ends_of t) (rows_of t)
 table-well-formed t some =
-    well-formed (lengths-rise 0 t some) (rw (lengths-last, length-lengths) (omega arith))
+    well_formed (lengths-rise 0 t some) (rw (lengths-last, length-lengths) (omega arith))
     (lengths-never-fall 0 (flatten t)) (rw lengths-last (omega arith))
 
-pub table-back : (t : Table) → table_of (text_of t) (endsOf t) (rows_of t) ≡ t
+pub table-back : (t : Table) → table_of (text_of t) (ends_of t) (rows_of t) ≡ t
 unfolding table_of
 table-back t = rw (parts-joined 0 [] (flatten t) refl, parts-joined 0 [] t refl)
 
@@ -241,7 +241,7 @@ table-length text ends rows = length-parts 0 (parts 0 text ends) rows
 
 module _ {text : Bytes} {ends rows : List ℕ} (w : WellFormed text ends rows) where
   rows-never-fall : Ordered ◌≤◌ 0 rows
-  rows-never-fall = rising-never-falls 0 rows w.rows-rise
+  rows-never-fall = rising-never-falls 0 rows w.rows_rise
 
   rows_fit : last_of 0 rows ≡ length (parts 0 text ends)
   rows_fit = rw length-parts w.last_row
@@ -251,16 +251,16 @@ module _ {text : Bytes} {ends rows : List ℕ} (w : WellFormed text ends rows) w
   fields_back = joined-parts 0 (parts 0 text ends) rows rows-never-fall rows_fit
 
   pub memory-back :
-      (text_of (table_of text ends rows) ≡ text) × (endsOf (table_of text ends rows) ≡ ends) × (rows_of (table_of text ends rows) ≡ rows)
+      (text_of (table_of text ends rows) ≡ text) × (ends_of (table_of text ends rows) ≡ ends) × (rows_of (table_of text ends rows) ≡ rows)
   unfolding table_of
   memory-back = (
-    rw (fields_back, joined-parts 0 text ends w.ends-never-fall w.last_end),
-    rw (fields_back, lengths-parts 0 text ends w.ends-never-fall (omega arith)),
+    rw (fields_back, joined-parts 0 text ends w.ends_never_fall w.last_end),
+    rw (fields_back, lengths-parts 0 text ends w.ends_never_fall (omega arith)),
     lengths-parts 0 (parts 0 text ends) rows rows-never-fall (omega (arith, rows_fit)),
   )
 
   pub memory-fields : Every (λ cs. 1 ≤ length cs) (table_of text ends rows)
-  memory-fields = lengths-rise-back 0 (table_of text ends rows) (rw memory-back.2 w.rows-rise)
+  memory-fields = lengths-rise-back 0 (table_of text ends rows) (rw memory-back.2 w.rows_rise)
 
   -- where no entry is above b, there are no more bytes, fields and records than b
   pub bytes_most : (b : ℕ) → ((i : ℕ) → get_or ends i 0 ≤ b) → length text ≤ b
@@ -270,14 +270,14 @@ module _ {text : Bytes} {ends rows : List ℕ} (w : WellFormed text ends rows) w
   fields-most b f = rw (← w.last_row) (last-most b 0 rows (omega arith) f)
 
   pub records-most : (b : ℕ) → ((i : ℕ) → get_or rows i 0 ≤ b) → length rows ≤ b
-  records-most b f = omega (arith, fields-most b f, w.last_row, rising-count 0 rows w.rows-rise)
+  records-most b f = omega (arith, fields-most b f, w.last_row, rising-count 0 rows w.rows_rise)
 
   -- a record's fields are among the ends, and a field's part is in the text
   pub row_within : (r : ℕ) → r < length rows → (start_of rows r ≤ get_or rows r 0) × (get_or rows r 0 ≤ length ends)
   row_within r h = rw w.last_row at (entry-within 0 rows r rows-never-fall h)
 
   pub end-within : (k : ℕ) → k < length ends → (start_of ends k ≤ get_or ends k 0) × (get_or ends k 0 ≤ length text)
-  end-within k h = rw w.last_end at (entry-within 0 ends k w.ends-never-fall h)
+  end-within k h = rw w.last_end at (entry-within 0 ends k w.ends_never_fall h)
 
   pub field_at :
       (r k : ℕ)
@@ -291,7 +291,7 @@ module _ {text : Bytes} {ends rows : List ℕ} (w : WellFormed text ends rows) w
   fields-length = rw (fields_back, length-parts)
 
   pub field-lengths : map length (flatten (table_of text ends rows)) ≡ gaps 0 ends
-  field-lengths = rw (fields_back, part-lengths 0 text ends w.ends-never-fall (omega (arith, w.last_end)))
+  field-lengths = rw (fields_back, part-lengths 0 text ends w.ends_never_fall (omega (arith, w.last_end)))
 
   pub record-lengths : map length (table_of text ends rows) ≡ gaps 0 rows
   unfolding table_of
@@ -300,7 +300,7 @@ module _ {text : Bytes} {ends rows : List ℕ} (w : WellFormed text ends rows) w
   -- the first record's fields
   pub width-at : width_of (table_of text ends rows) ≡ get_or rows 0 0
   unfolding table_of parts last_of
-  width-at = go rows w.rows-rise w.last_row
+  width-at = go rows w.rows_rise w.last_row
     where
       go : (ms : List ℕ) → Ordered ◌<◌ 0 ms → last_of 0 ms ≡ length ends → width_of (parts 0 (parts 0 text ends) ms) ≡ get_or ms 0 0
       go [] o e = refl

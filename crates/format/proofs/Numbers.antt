@@ -13,8 +13,8 @@ use Rattle.format.specs.declared.Written.{Written, TheVariants.Whole, TheVariant
 use Rattle.format.specs.declared.Part.{Part, TheVariants.Lies, TheVariants.Absent}
 use Rattle.format.specs.Table.{Bytes}
 use Rattle.format.specs.Dialect.{dialect}
-use Rattle.format.specs.Answer.{searchNumbers, writerNumbers, partNumbers}
-use Rattle.format.specs.Reading.{Refused, refusal-1, refusal-2, in-file}
+use Rattle.format.specs.Answer.{search_numbers, writer_numbers, part_numbers}
+use Rattle.format.specs.Reading.{Refused, refusal_1, refusal_2, in_file}
 use Rattle.format.proofs.Refusals.{refusal-row, row_number}
 
 -- what has a way back is one
@@ -27,11 +27,11 @@ found l =
     let k : FieldNumber = record { 0 = get_or l 3 0 } in
     cond (eqb n 0) (At k) (cond (eqb n 14) Unfit (cond (eqb n 16) (Twice k) Missing))
 
-pub one-search-numbers : (x y : Found) → searchNumbers x ≡ searchNumbers y → x ≡ y
+pub one-search-numbers : (x y : Found) → search_numbers x ≡ search_numbers y → x ≡ y
 unfolding found
-one-search-numbers = one-by searchNumbers found back
+one-search-numbers = one-by search_numbers found back
   where
-    back : (x : Found) → found (searchNumbers x) ≡ x
+    back : (x : Found) → found (search_numbers x) ≡ x
     back (At k) = refl
     back Unfit = refl
     back (Twice k) = refl
@@ -49,11 +49,11 @@ written l =
     (cond (eqb n 10) (Uneven (record { 0 = k }))
     (cond (eqb n 2) LongFile NoRoom))))))
 
-pub one-write-numbers : (x y : Written) → writerNumbers x ≡ writerNumbers y → x ≡ y
+pub one-write-numbers : (x y : Written) → writer_numbers x ≡ writer_numbers y → x ≡ y
 unfolding written
-one-write-numbers = one-by writerNumbers written back
+one-write-numbers = one-by writer_numbers written back
   where
-    back : (x : Written) → written (writerNumbers x) ≡ x
+    back : (x : Written) → written (writer_numbers x) ≡ x
     back (Whole n) = refl
     back UnknownMode = refl
     back Malformed = refl
@@ -66,16 +66,16 @@ one-write-numbers = one-by writerNumbers written back
 part : List ℕ → Part
 part l = cond (eqb (get_or l 0 0) 0) Absent (Lies (record { 0 = get_or l 1 0 }) (get_or l 2 0))
 
-pub one-part-numbers : (x y : Part) → partNumbers x ≡ partNumbers y → x ≡ y
+pub one-part-numbers : (x y : Part) → part_numbers x ≡ part_numbers y → x ≡ y
 unfolding part
-one-part-numbers = one-by partNumbers part back
+one-part-numbers = one-by part_numbers part back
   where
-    back : (x : Part) → part (partNumbers x) ≡ x
+    back : (x : Part) → part (part_numbers x) ≡ x
     back (Lies start n) = refl
     back Absent = refl
 
 -- a refusal's number is not 0: so the numbers say whether a file is accepted
 pub refused-number : {b sum n : ℕ} {f : Bytes} {p : Place} → Refused b sum f n p → 1 ≤ n
-refused-number (refusal-1 v) = omega arith
-refused-number (refusal-2 v l) = omega arith
-refused-number {b} {sum} (in-file v l x q) = let w = (row_number (refusal-row (dialect b sum) v.0 x)).0 in omega arith
+refused-number (refusal_1 v) = omega arith
+refused-number (refusal_2 v l) = omega arith
+refused-number {b} {sum} (in_file v l x q) = let w = (row_number (refusal-row (dialect b sum) v.0 x)).0 in omega arith

@@ -7,14 +7,14 @@ use mathlib.Core.Logic.{◌⊎◌, inl, inr, ◌↔◌}
 use native.Mathlib.Omega.{arith}
 use lib.Dec.{eqb}
 use Rattle.format.specs.Table.{Bytes, Content, Table, Ending}
-use Rattle.format.specs.Dialect.{Class, text, delimiter, quote, CR, LF, forbidden, strict, classOf}
+use Rattle.format.specs.Dialect.{Class, text, delimiter, quote, CR, LF, forbidden, strict, class_of}
 use Rattle.format.specs.Grammar.{padded, Blanks, Bare, Inside, Open, Quoted, Field, Record, Break, File}
 use Rattle.format.specs.Rfc4180
 use Rattle.format.specs.Rfc4180.{Textdata, NonEscaped, InEscaped}
 use Rattle.format.specs.Reading.{Reading, RfcReading}
-use Rattle.format.specs.WrittenForms.{isSpecial, holdsSpecial, needsQuotes}
+use Rattle.format.specs.WrittenForms.{is_special, holds_special, needs_quotes}
 use Rattle.format.proofs.Leniencies.{strict-report}
-use Rattle.format.proofs.Classes.{Strict, strict-text, strict-comma, strict-quote, strict-CR, strict-LF, strict-other, strict-class, TextRange, textdata-range, quote-is, CR-is, LF-is, delimiter-is, blank-is, class-quote, class-CR, class-LF, class-delimiter, inside-byte}
+use Rattle.format.proofs.Classes.{Strict, strict_text, strict_comma, strict_quote, strict_CR, strict_LF, strict_other, strict-class, TextRange, textdata-range, quote-is, CR-is, LF-is, delimiter-is, blank-is, class-quote, class-CR, class-LF, class-delimiter, inside-byte}
 
 -- a byte that strict can hold, in the rules' words: 0x20-0x7E, CR or LF
 abbrev pub StrictByte : ℕ → Type 0
@@ -22,42 +22,42 @@ StrictByte b = ((0x20 ≤ b) × (b ≤ 0x7E)) ⊎ ((b ≡ 0x0D) ⊎ (b ≡ 0x0A)
 
 -- text at strict is TEXTDATA
 module _ (b : ℕ) where
-  pub text-textdata : classOf strict b ≡ text → Textdata b
+  pub text-textdata : class_of strict b ≡ text → Textdata b
   text-textdata e = go (rw e at (strict-class b))
     where
       go : Strict b text → Textdata b
-      go (strict-text k) = k
+      go (strict_text k) = k
 
-  pub textdata-text : Textdata b → classOf strict b ≡ text
-  textdata-text k = go (classOf strict b) (textdata-range k) (strict-class b)
+  pub textdata-text : Textdata b → class_of strict b ≡ text
+  textdata-text k = go (class_of strict b) (textdata-range k) (strict-class b)
     where
       go : (x : Class) → TextRange b → Strict b x → x ≡ text
       go text p v = refl
-      go delimiter p (strict-comma q) = absurd (omega arith)
-      go quote p (strict-quote q) = absurd (omega arith)
-      go CR p (strict-CR q) = absurd (omega arith)
-      go LF p (strict-LF q) = absurd (omega arith)
-      go forbidden p (strict-other n c l) = absurd (n p.low p.high)
+      go delimiter p (strict_comma q) = absurd (omega arith)
+      go quote p (strict_quote q) = absurd (omega arith)
+      go CR p (strict_CR q) = absurd (omega arith)
+      go LF p (strict_LF q) = absurd (omega arith)
+      go forbidden p (strict_other n c l) = absurd (n p.low p.high)
 
   -- strict forbids all other bytes, and no more
-  pub strict-holds : (classOf strict b ≡ forbidden → ⊥) ↔ StrictByte b
-  strict-holds = (λ free. go (classOf strict b) free (strict-class b), λ w e. none w (rw e at (strict-class b)))
+  pub strict-holds : (class_of strict b ≡ forbidden → ⊥) ↔ StrictByte b
+  strict-holds = (λ free. go (class_of strict b) free (strict-class b), λ w e. none w (rw e at (strict-class b)))
     where
       go : (x : Class) → (x ≡ forbidden → ⊥) → Strict b x → StrictByte b
-      go text free (strict-text k) = let p = textdata-range k in inl (p.low, p.high)
-      go delimiter free (strict-comma q) = inl (omega arith)
-      go quote free (strict-quote q) = inl (omega arith)
-      go CR free (strict-CR q) = inr (inl q)
-      go LF free (strict-LF q) = inr (inr q)
+      go text free (strict_text k) = let p = textdata-range k in inl (p.low, p.high)
+      go delimiter free (strict_comma q) = inl (omega arith)
+      go quote free (strict_quote q) = inl (omega arith)
+      go CR free (strict_CR q) = inr (inl q)
+      go LF free (strict_LF q) = inr (inr q)
       go forbidden free v = absurd (free refl)
 
       none : StrictByte b → Strict b forbidden → ⊥
-      none (inl r) (strict-other n c l) = n r.0 r.1
-      none (inr (inl q)) (strict-other n c l) = c q
-      none (inr (inr q)) (strict-other n c l) = l q
+      none (inl r) (strict_other n c l) = n r.0 r.1
+      none (inr (inl q)) (strict_other n c l) = c q
+      none (inr (inr q)) (strict_other n c l) = l q
 
 -- At strict a field needs quotes exactly where it holds a special byte. That is, by computation, a comma, quote, CR or LF: the rule for the plain form.
-pub strict-special : (b : ℕ) → isSpecial strict b ≡ (eqb b 0x2C || (eqb b 0x22 || (eqb b 0x0D || eqb b 0x0A)))
+pub strict-special : (b : ℕ) → is_special strict b ≡ (eqb b 0x2C || (eqb b 0x22 || (eqb b 0x0D || eqb b 0x0A)))
 strict-special b = refl
 
 strict-padded : (c : Content) → padded strict c ≡ false
@@ -65,9 +65,9 @@ unfolding padded
 strict-padded [] = refl
 strict-padded (b ∷ c) = refl
 
-pub strict-needs : (c : Content) → needsQuotes strict c ≡ holdsSpecial strict c
-unfolding needsQuotes
-strict-needs c = rw (strict-padded c) (go (holdsSpecial strict c))
+pub strict-needs : (c : Content) → needs_quotes strict c ≡ holds_special strict c
+unfolding needs_quotes
+strict-needs c = rw (strict-padded c) (go (holds_special strict c))
   where
     go : (x : Bool) → (x || false) ≡ x
     go true = refl
@@ -83,20 +83,20 @@ no-blanks (Blanks.more {b} k x) = absurd (blank-is strict b k).1
 
 bare-rfc : {f g : Bytes} {c : Content} → Bare strict f c g → NonEscaped c × (f ≡ c ++ g)
 bare-rfc Bare.none = (NonEscaped.none, refl)
-bare-rfc (Bare.text-byte {b} k x) = let (q, e) = bare-rfc x in (NonEscaped.more (text-textdata b k) q, cc)
-bare-rfc (Bare.blank-byte {b} k x) = absurd (blank-is strict b k).1
+bare-rfc (Bare.text_byte {b} k x) = let (q, e) = bare-rfc x in (NonEscaped.more (text-textdata b k) q, cc)
+bare-rfc (Bare.blank_byte {b} k x) = absurd (blank-is strict b k).1
 
 byte-escaped :
     {f : Bytes} {c : Content} (b : ℕ)
-    → (classOf strict b ≡ quote → ⊥) → (classOf strict b ≡ forbidden → ⊥) → InEscaped f c → InEscaped (b ∷ f) (b ∷ c)
-byte-escaped {f} {c} b n m q = go (classOf strict b) n m (strict-class b)
+    → (class_of strict b ≡ quote → ⊥) → (class_of strict b ≡ forbidden → ⊥) → InEscaped f c → InEscaped (b ∷ f) (b ∷ c)
+byte-escaped {f} {c} b n m q = go (class_of strict b) n m (strict-class b)
   where
     go : (x : Class) → (x ≡ quote → ⊥) → (x ≡ forbidden → ⊥) → Strict b x → InEscaped (b ∷ f) (b ∷ c)
-    go text n m (strict-text k) = InEscaped.TEXTDATA k q
-    go delimiter n m (strict-comma e) = rw e (InEscaped.COMMA q)
+    go text n m (strict_text k) = InEscaped.TEXTDATA k q
+    go delimiter n m (strict_comma e) = rw e (InEscaped.COMMA q)
     go quote n m v = absurd (n refl)
-    go CR n m (strict-CR e) = rw e (InEscaped.CR q)
-    go LF n m (strict-LF e) = rw e (InEscaped.LF q)
+    go CR n m (strict_CR e) = rw e (InEscaped.CR q)
+    go LF n m (strict_LF e) = rw e (InEscaped.LF q)
     go forbidden n m v = absurd (m refl)
 
 inside-rfc : {f g : Bytes} {c : Content} → Inside strict f c g → Front (λ s. InEscaped s c) f g
@@ -104,7 +104,7 @@ inside-rfc Inside.none = ([], InEscaped.none, refl)
 inside-rfc (Inside.byte {b} n m x) = let (s, q, e) = inside-rfc x in (b ∷ s, byte-escaped b n m q, cc)
 inside-rfc (Inside.pair {a} {b} k n x) =
     let (s, q, e) = inside-rfc x in
-    (0x22 ∷ 0x22 ∷ s, rw (quote-is strict b n) (InEscaped.DQUOTE-DQUOTE q), cc (quote-is strict a k, quote-is strict b n))
+    (0x22 ∷ 0x22 ∷ s, rw (quote-is strict b n) (InEscaped.DQUOTE_DQUOTE q), cc (quote-is strict a k, quote-is strict b n))
 
 quoted-rfc : {f g : Bytes} {c : Content} → Quoted strict f c g → Front (λ s. Rfc4180.Field s c) f g
 quoted-rfc {g} (Quoted.closed {b} (Open.opened {b = a} k x) n) =
@@ -112,7 +112,7 @@ quoted-rfc {g} (Quoted.closed {b} (Open.opened {b = a} k x) n) =
     (0x22 ∷ (s ++ (0x22 ∷ [])), Rfc4180.Field.escaped q refl, cc (append_assoc s (0x22 ∷ []) g, quote-is strict a k, quote-is strict b n))
 
 field-rfc : {f g : Bytes} {c : Content} → Field strict f c g → Front (λ s. Rfc4180.Field s c) f g
-field-rfc (Field.bare {c} x k n y) = let (q, e) = bare-rfc k in (c, Rfc4180.Field.non-escaped q, cc (no-blanks x, no-blanks y))
+field-rfc (Field.bare {c} x k n y) = let (q, e) = bare-rfc k in (c, Rfc4180.Field.non_escaped q, cc (no-blanks x, no-blanks y))
 field-rfc (Field.quoted x k y) = let (s, q, e) = quoted-rfc k in (s, q, cc (no-blanks x, no-blanks y))
 
 record-rfc : {f g : Bytes} {cs : List Content} → Record strict f cs g → Front (λ s. Rfc4180.Record s cs) f g
@@ -124,7 +124,7 @@ record-rfc {g} (Record.more {b} x k r) =
 
 line-rfc : {f g h : Bytes} {cs : List Content} → Record strict f cs g → Break strict g h → Front (λ s. Rfc4180.Record s cs) f (0x0D ∷ 0x0A ∷ h)
 line-rfc r (Break.crlf {a} {b} k n) = rw (CR-is strict a k, LF-is strict b n) at (record-rfc r)
-line-rfc r (Break.lf-alone k t) = absurd t
+line-rfc r (Break.lf_alone k t) = absurd t
 
 pub grammar-rfc : {f : Bytes} {t : Table} {e : Ending} → File strict f t e → Rfc4180.File f t e
 grammar-rfc (File.one {cs} r) =
@@ -136,7 +136,7 @@ grammar-rfc (File.more r k p) = let (s, q, e) = line-rfc r k in Rfc4180.File.mor
 -- and back, with any rest g behind the piece
 rfc-bare : {c : Content} (g : Bytes) → NonEscaped c → Bare strict (c ++ g) c g
 rfc-bare g NonEscaped.none = Bare.none
-rfc-bare g (NonEscaped.more {b} k x) = Bare.text-byte (textdata-text b k) (rfc-bare g x)
+rfc-bare g (NonEscaped.more {b} k x) = Bare.text_byte (textdata-text b k) (rfc-bare g x)
 
 rfc-inside : {s : Bytes} {c : Content} (g : Bytes) → InEscaped s c → Inside strict (s ++ g) c g
 rfc-inside g InEscaped.none = Inside.none
@@ -144,13 +144,13 @@ rfc-inside g (InEscaped.TEXTDATA {b} k x) = inside-byte text tt (textdata-text b
 rfc-inside g (InEscaped.COMMA x) = inside-byte delimiter tt (class-delimiter strict) (rfc-inside g x)
 rfc-inside g (InEscaped.CR x) = inside-byte CR tt (class-CR strict tt) (rfc-inside g x)
 rfc-inside g (InEscaped.LF x) = inside-byte LF tt (class-LF strict tt) (rfc-inside g x)
-rfc-inside g (InEscaped.DQUOTE-DQUOTE x) = Inside.pair (class-quote strict tt) (class-quote strict tt) (rfc-inside g x)
+rfc-inside g (InEscaped.DQUOTE_DQUOTE x) = Inside.pair (class-quote strict tt) (class-quote strict tt) (rfc-inside g x)
 
 rfc-field : {f : Bytes} {c : Content} (g : Bytes) → Rfc4180.Field f c → Field strict (f ++ g) c g
 rfc-field g (Rfc4180.Field.escaped q e) =
     let q' = Open.opened (class-quote strict tt) (rfc-inside (0x22 ∷ g) q) in
     rw e (simp append_assoc (Field.quoted Blanks.none (Quoted.closed q' (class-quote strict tt)) Blanks.none))
-rfc-field {c} g (Rfc4180.Field.non-escaped q) = Field.bare Blanks.none (rfc-bare g q) (strict-padded c) Blanks.none
+rfc-field {c} g (Rfc4180.Field.non_escaped q) = Field.bare Blanks.none (rfc-bare g q) (strict-padded c) Blanks.none
 
 rfc-record : {f : Bytes} {cs : List Content} (g : Bytes) → Rfc4180.Record f cs → Record strict (f ++ g) cs g
 rfc-record g (Rfc4180.Record.one x) = Record.one (rfc-field g x)

@@ -4,18 +4,18 @@ use Prim.Native.Nat.{ℕ, ◌+◌, ◌*◌, ◌≤◌}
 use native.Mathlib.Omega.{arith}
 use mathlib.Core.List.{List, [], ◌∷◌, flatten}
 use lib.ListN.{length, length-append}
-use Rattle.format.specs.Table.{Bytes, Content, Table, Every, Ending, without-break}
+use Rattle.format.specs.Table.{Bytes, Content, Table, Every, Ending, without_break}
 use Rattle.format.specs.Dialect.{Dialect}
 use Rattle.format.specs.Grammar.{Blanks, Bare, Inside, opened, closed, Field, Record, Break, File}
 use Rattle.format.specs.House.{LastBreak, EmptyFile}
 use Rattle.format.specs.Memory.{text_of}
-use Rattle.format.specs.WrittenForms.{recordBy, tableBy}
+use Rattle.format.specs.WrittenForms.{record_by, table_by}
 use Rattle.format.specs.Reading.{Reading}
 use Rattle.format.proofs.CanHold.{record-clean}
 use Rattle.format.proofs.Memory.{sizes-more}
 
 -- a last record without its line break has a byte
-last-room : (f : Bytes) → LastBreak (without-break f) → 1 ≤ length f
+last-room : (f : Bytes) → LastBreak (without_break f) → 1 ≤ length f
 last-room [] l = absurd l
 last-room (b ∷ f) l = omega arith
 
@@ -27,8 +27,8 @@ module _ {d : Dialect} where
 
   bare-room : {f g : Bytes} {c : Content} → Bare d f c g → length c + length g ≤ length f
   bare-room Bare.none = omega arith
-  bare-room (Bare.text-byte k r) = omega (arith, bare-room r)
-  bare-room (Bare.blank-byte k r) = omega (arith, bare-room r)
+  bare-room (Bare.text_byte k r) = omega (arith, bare-room r)
+  bare-room (Bare.blank_byte k r) = omega (arith, bare-room r)
 
   inside-room : {f g : Bytes} {c : Content} → Inside d f c g → length c + length g ≤ length f
   inside-room Inside.none = omega arith
@@ -47,14 +47,14 @@ module _ {d : Dialect} where
 
   break-room : {f g : Bytes} → Break d f g → length g + 1 ≤ length f
   break-room (Break.crlf j k) = omega arith
-  break-room (Break.lf-alone j k) = omega arith
+  break-room (Break.lf_alone j k) = omega arith
 
   -- so text and fields together are at most one more than the file
-  file-room : {f : Bytes} {t : Table} {e : Ending} → File d f t e → length (text_of t) + length (flatten t) ≤ length f + 1
+  file_room : {f : Bytes} {t : Table} {e : Ending} → File d f t e → length (text_of t) + length (flatten t) ≤ length f + 1
   unfolding flatten
-  file-room (File.one {cs} r) = omega (arith, record-room r, sizes-more cs [])
-  file-room (File.ended {cs} r k) = omega (arith, record-room r, sizes-more cs [], break-room k)
-  file-room (File.more {cs} {t} r k p) = omega (arith, record-room r, sizes-more cs t, break-room k, file-room p)
+  file_room (File.one {cs} r) = omega (arith, record-room r, sizes-more cs [])
+  file_room (File.ended {cs} r k) = omega (arith, record-room r, sizes-more cs [], break-room k)
+  file_room (File.more {cs} {t} r k p) = omega (arith, record-room r, sizes-more cs t, break-room k, file_room p)
 
   file-some : {f : Bytes} {t : Table} {e : Ending} → File d f t e → 1 ≤ length (flatten t)
   unfolding flatten
@@ -63,10 +63,10 @@ module _ {d : Dialect} where
   file-some (File.more {cs} {t} r k p) = omega (arith, (record-clean r).0, length-append cs (flatten t))
 
   -- every record but a last one without it has a line break of its own
-  rows-room : {f : Bytes} {t : Table} {e : Ending} → File d f t e → LastBreak e → length t ≤ length f
-  rows-room (File.one {f} r) l = last-room f l
-  rows-room (File.ended r k) l = omega (arith, record-room r, (record-clean r).0, break-room k)
-  rows-room (File.more r k p) l = omega (arith, record-room r, (record-clean r).0, break-room k, rows-room p l)
+  rows_room : {f : Bytes} {t : Table} {e : Ending} → File d f t e → LastBreak e → length t ≤ length f
+  rows_room (File.one {f} r) l = last-room f l
+  rows_room (File.ended r k) l = omega (arith, record-room r, (record-clean r).0, break-room k)
+  rows_room (File.more r k p) l = omega (arith, record-room r, (record-clean r).0, break-room k, rows_room p l)
 
 -- Text of the file's length, ends of one more and rows of the file's length are always enough.
 pub record RoomEnough (f : Bytes) (t : Table) : Type 0 where
@@ -78,21 +78,21 @@ pub room-enough : {d : Dialect} {f : Bytes} {t : Table} {r : ℕ} → Reading d 
 unfolding flatten
 room-enough (Reading.nothing EmptyFile.empty) = record { text = omega arith; ends = omega arith; rows = omega arith }
 room-enough (Reading.something p l a q) =
-    record { text = omega (arith, file-room p, file-some p); ends = omega (arith, file-room p); rows = rows-room p l }
+    record { text = omega (arith, file_room p, file-some p); ends = omega (arith, file_room p); rows = rows_room p l }
 
 -- A written table has at most two bytes for each of its text, three for each field (its quotes, and what parts it from the next) and one more for each
 -- record, whose line break has two.
 module _ (form : Content → Bytes) (d : Dialect) (bound : (c : Content) → length (form c) ≤ 2 * length c + 2) where
-  record-written : (c : Content) (cs : List Content) → length (recordBy form d (c ∷ cs)) + 1 ≤ 2 * length (flatten (c ∷ cs)) + 3 * length (c ∷ cs)
-  unfolding recordBy flatten
+  record-written : (c : Content) (cs : List Content) → length (record_by form d (c ∷ cs)) + 1 ≤ 2 * length (flatten (c ∷ cs)) + 3 * length (c ∷ cs)
+  unfolding record_by flatten
   record-written c [] = omega (arith, bound c, length-append c [])
   record-written c (e ∷ cs) =
-      omega (arith, bound c, record-written e cs, length-append c (flatten (e ∷ cs)), length-append (form c) (d.delimiterByte ∷ recordBy form d (e ∷ cs)))
+      omega (arith, bound c, record-written e cs, length-append c (flatten (e ∷ cs)), length-append (form c) (d.delimiter_byte ∷ record_by form d (e ∷ cs)))
 
-  pub written-room : (t : Table) → Every (λ cs. 1 ≤ length cs) t → length (tableBy form d t) ≤ 2 * length (text_of t) + 3 * length (flatten t) + length t
-  unfolding tableBy
+  pub written-room : (t : Table) → Every (λ cs. 1 ≤ length cs) t → length (table_by form d t) ≤ 2 * length (text_of t) + 3 * length (flatten t) + length t
+  unfolding table_by
   written-room [] h = omega arith
   written-room ([] ∷ t) h = absurd (omega (arith, h.0))
   written-room ((c ∷ cs) ∷ t) h =
       let (text, fields) = sizes-more (c ∷ cs) t in
-      omega (arith, record-written c cs, written-room t h.1, text, fields, length-append (recordBy form d (c ∷ cs)) (0x0D ∷ 0x0A ∷ tableBy form d t))
+      omega (arith, record-written c cs, written-room t h.1, text, fields, length-append (record_by form d (c ∷ cs)) (0x0D ∷ 0x0A ∷ table_by form d t))

@@ -12,8 +12,8 @@ use Rattle.format.specs.Table.{Bytes, Content, Table, Ending}
 use Rattle.format.specs.Dialect.{Dialect, delimits}
 use Rattle.format.specs.Grammar.{Blanks, Field, Record, Break, File}
 use Rattle.format.specs.House.{EndsInBreak}
-use Rattle.format.specs.WrittenForms.{needsQuotes, quotedForm, plainForm, recordBy, tableBy, plain}
-use Rattle.format.specs.Count.{inRecord, inFile, blankCount, dropped, needless, alone, alones, missing, Tally, tally}
+use Rattle.format.specs.WrittenForms.{needs_quotes, quoted_form, plain_form, record_by, table_by, plain}
+use Rattle.format.specs.Count.{sum_in_record, sum_in_file, blank_count, dropped, needless, alone, alones, missing, Tally, tally}
 use Rattle.format.proofs.Classes.{CR-is, LF-is, delimiter-is}
 use Rattle.format.proofs.Ended.{missing-ended, missing-le}
 use Rattle.format.proofs.Length.{bare-source, bare-needs, quoted-source, weigh, file-sum, file-weight, line-one, line-more}
@@ -30,7 +30,7 @@ unfolding weigh
 weigh-any [] = refl
 weigh-any (b ∷ f) = omega (arith, weigh-any f)
 
-module _ (d : Dialect) (valid : T (delimits d.delimiterByte)) where
+module _ (d : Dialect) (valid : T (delimits d.delimiter_byte)) where
   -- the length law: two for each field quoted without need, one for each dropped blank, less two for a missing last break and one for each LF alone
   pub length-law :
       {f : Bytes} {t : Table} {n b l m : ℕ} → Tally d f t n b l m → length f + (2 * m + l) ≡ length (plain d t) + (2 * n + b)
@@ -60,10 +60,10 @@ module _ (d : Dialect) (valid : T (delimits d.delimiterByte)) where
       go (suc m) (suc m') p q i j = omega arith
 
   -- the counts are facts of the file and its table: any two readings agree on them
-  pub one-tally :
+  pub one_tally :
       {f : Bytes} {t : Table} {n b l m n' b' l' m' : ℕ} → Tally d f t n b l m → Tally d f t n' b' l' m'
       → (n ≡ n') × (b ≡ b') × (l ≡ l') × (m ≡ m')
-  one-tally x y =
+  one_tally x y =
       let u = one-missing x y in
       let v = quote-law x in
       let w = quote-law y in
@@ -74,40 +74,40 @@ module _ (d : Dialect) (valid : T (delimits d.delimiterByte)) where
       omega arith
 
   -- a source with nothing beyond the plain form is the plain form
-  blanks-none : {f g : Bytes} (x : Blanks d f g) → blankCount x ≡ 0 → f ≡ g
-  unfolding blankCount
+  blanks-none : {f g : Bytes} (x : Blanks d f g) → blank_count x ≡ 0 → f ≡ g
+  unfolding blank_count
   blanks-none Blanks.none n = refl
   blanks-none (Blanks.more k x) n = absurd (omega arith)
 
   field_plain :
-      {f g : Bytes} {c : Content} (p : Field d f c g) → needless f c g p + dropped f c g p ≡ 0 → f ≡ plainForm d c ++ g
-  unfolding needless dropped plainForm
+      {f g : Bytes} {c : Content} (p : Field d f c g) → needless f c g p + dropped f c g p ≡ 0 → f ≡ plain_form d c ++ g
+  unfolding needless dropped plain_form
   field_plain (Field.bare x k n y) m =
       rw (bare-needs k n) (blanks-none x (omega arith) ∙ (bare-source k ∙ rw (blanks-none y (omega arith))))
-  field_plain {f} {g} {c} (Field.quoted x k y) m = go (needsQuotes d c) m
+  field_plain {f} {g} {c} (Field.quoted x k y) m = go (needs_quotes d c) m
     where
-      go : (u : Bool) → cond u 0 1 + (blankCount x + blankCount y) ≡ 0 → f ≡ cond u (quotedForm c) c ++ g
+      go : (u : Bool) → cond u 0 1 + (blank_count x + blank_count y) ≡ 0 → f ≡ cond u (quoted_form c) c ++ g
       go true m = blanks-none x (omega arith) ∙ (quoted-source d valid k ∙ rw (blanks-none y (omega arith)))
       go false m = absurd (omega arith)
 
   record-plain :
       {f g : Bytes} {cs : List Content} (r : Record d f cs g)
-      → inRecord needless r + inRecord dropped r ≡ 0 → f ≡ recordBy (plainForm d) d cs ++ g
-  unfolding inRecord
-  record-plain (Record.one {c} p) m = rw (line-one (plainForm d) d c) (field_plain p m)
+      → sum_in_record needless r + sum_in_record dropped r ≡ 0 → f ≡ record_by (plain_form d) d cs ++ g
+  unfolding sum_in_record
+  record-plain (Record.one {c} p) m = rw (line-one (plain_form d) d c) (field_plain p m)
   record-plain {g} (Record.more {b} {c} {cs} p k r) m =
       let q = record-plain r (omega arith) in
-      rw (line-more (plainForm d) c r, append_assoc) (field_plain p (omega arith) ∙ cc (q, delimiter-is d b k))
+      rw (line-more (plain_form d) c r, append_assoc) (field_plain p (omega arith) ∙ cc (q, delimiter-is d b k))
 
   break-plain : {g h : Bytes} (k : Break d g h) → alone k ≡ 0 → g ≡ 0x0D ∷ 0x0A ∷ h
   unfolding alone
   break-plain (Break.crlf {a} {b} j k) n = rw (CR-is d a j, LF-is d b k)
-  break-plain (Break.lf-alone j k) n = absurd (omega arith)
+  break-plain (Break.lf_alone j k) n = absurd (omega arith)
 
   file-plain :
       {f : Bytes} {t : Table} {e : Ending} (p : File d f t e)
-      → inFile needless p + inFile dropped p ≡ 0 → alones p + missing e ≡ 0 → f ≡ plain d t
-  unfolding inFile alones tableBy
+      → sum_in_file needless p + sum_in_file dropped p ≡ 0 → alones p + missing e ≡ 0 → f ≡ plain d t
+  unfolding sum_in_file alones table_by
   file-plain (File.one r) m n = absurd (omega arith)
   file-plain (File.ended r k) m n = record-plain r m ∙ rw (break-plain k (omega arith))
   file-plain (File.more r k p) m n =

@@ -9,13 +9,13 @@ use lib.ListN.{length, get_or, take, drop, length-append}
 use lib.Dec.{leb}
 use borrow.Author.Tests.{leb-true, leb-false}
 use lib.Seq.{take_at, drop_at, get_or_at}
-use Rattle.format.specs.Table.{Bytes, Content, Table, Ending, without-break}
+use Rattle.format.specs.Table.{Bytes, Content, Table, Ending, without_break}
 use Rattle.format.specs.Dialect.{Dialect}
 use Rattle.format.specs.Grammar.{Blanks, Bare, Open, opened, closed, Field, Record, Break, File}
 use Rattle.format.specs.House.{LastBreak, EmptyFile}
 use Rattle.format.specs.Refusal.{LineEnd, Records}
 use Rattle.format.specs.Reading.{Reading}
-use Rattle.format.specs.Walk.{Holds, RecordAt, record-at, NoRecord, no_record, FaultBefore, fault-before, indexStep, Entries, Index, Usable}
+use Rattle.format.specs.Walk.{Holds, RecordAt, record-at, NoRecord, no_record, FaultBefore, fault_before, index_step, Entries, Index, Usable}
 use Rattle.format.proofs.Grow.{record-cut, records-cut, records-more}
 use Rattle.format.proofs.Refusals.{RestOf, records-behind}
 
@@ -41,7 +41,7 @@ module _ {d : Dialect} where
 
   pub break-nil : {g h : Bytes} → Break d g h → g ≡ [] → ⊥
   break-nil (Break.crlf e k) n = cons-nil n
-  break-nil (Break.lf-alone e t) n = cons-nil n
+  break-nil (Break.lf_alone e t) n = cons-nil n
 
   -- a record with its line break is not nothing
   some-before : {f g h : Bytes} {cs : List Content} → Record d f cs g → Break d g h → f ≡ [] → ⊥
@@ -70,7 +70,7 @@ module _ {d : Dialect} where
 
   pub break-shorter : {g h : Bytes} → Break d g h → length h < length g
   break-shorter (Break.crlf e k) = omega arith
-  break-shorter (Break.lf-alone e t) = omega arith
+  break-shorter (Break.lf_alone e t) = omega arith
 
   -- a record has a byte at least
   pub records-shorter : {f g : Bytes} {t : Table} → Records d f t g → length g + length t ≤ length f
@@ -93,7 +93,7 @@ module _ {d : Dialect} where
     record-later (record-at {t = u} s q x l) = record-at (records-more d r s) (omega (arith, length-append t u)) x l
 
     pub fault-later : FaultBefore d g j → FaultBefore d f k
-    fault-later (fault-before {t = u} s q x y) = fault-before (records-more d r s) (omega (arith, length-append t u)) x y
+    fault-later (fault_before {t = u} s q x y) = fault_before (records-more d r s) (omega (arith, length-append t u)) x y
 
     pub none-later : NoRecord d g j → NoRecord d f k
     none-later (no_record {t = u} h q) = no_record (holds-behind r h) (omega (arith, length-append t u))
@@ -110,7 +110,7 @@ module _ {d : Dialect} where
   first-at f n r l = found_at f n Records.none refl r l
 
   file-record : {f : Bytes} {t : Table} {e : Ending} → File d f t e → LastBreak e → (k : ℕ) → k < length t → (g h : Bytes) × RecordAt d f k g (get_or t k []) h
-  file-record {f} (File.one r) l zero n = (f, [], first-at f (λ e. subst (λ (x : Bytes). LastBreak (without-break x)) e l) r LineEnd.end)
+  file-record {f} (File.one r) l zero n = (f, [], first-at f (λ e. subst (λ (x : Bytes). LastBreak (without_break x)) e l) r LineEnd.end)
   file-record (File.one r) l (suc k) n = absurd (omega arith)
   file-record {f} (File.ended {g} r x) l zero n = (f, g, first-at f (λ e. some-before r x e) r (LineEnd.broken x))
   file-record (File.ended r x) l (suc k) n = absurd (omega arith)
@@ -163,22 +163,22 @@ module _ {d : Dialect} where
   records-usable {f} {g} r = by (records-behind r)
     where
       by : (f ≡ g) ⊎ ((s : Bytes) × (f ≡ s ++ (0x0A ∷ g))) → Usable f (length f - length g)
-      by (inl e) = record { within = omega arith; behind-lf = λ n. absurd (omega (arith, ap length e)) }
+      by (inl e) = record { within = omega arith; behind_lf = λ n. absurd (omega (arith, ap length e)) }
       by (inr (s, q)) =
           let n : length s ≡ length f - length g - 1 = omega (arith, ap length q, length-append s (0x0A ∷ g)) in
-          record { within = omega arith; behind-lf = λ h. ap (λ (l : Bytes). get_or l (length f - length g - 1) 0) q ∙ get_or_at s 0x0A g 0 (length f - length g - 1) n }
+          record { within = omega arith; behind_lf = λ h. ap (λ (l : Bytes). get_or l (length f - length g - 1) 0) q ∙ get_or_at s 0x0A g 0 (length f - length g - 1) n }
 
   -- what holds a table has an index
-  some-entries : {f : Bytes} {t : Table} → Holds d f t → (n j : ℕ) → length t ≤ (j + n) * indexStep → (es : List ℕ) × Entries d f j es
+  some-entries : {f : Bytes} {t : Table} → Holds d f t → (n j : ℕ) → length t ≤ (j + n) * index_step → (es : List ℕ) × Entries d f j es
   some-entries h zero j l = ([], Entries.none {j = j} (no_record h (omega arith)))
-  some-entries {f} {t} h (suc n) j l = by (holds-either h (j * indexStep)) (some-entries h n (suc j) (omega arith))
+  some-entries {f} {t} h (suc n) j l = by (holds-either h (j * index_step)) (some-entries h n (suc j) (omega arith))
     where
-      by : FoundOrNone d f t (j * indexStep) → (es : List ℕ) × Entries d f (suc j) es → (es : List ℕ) × Entries d f j es
+      by : FoundOrNone d f t (j * index_step) → (es : List ℕ) × Entries d f (suc j) es → (es : List ℕ) × Entries d f j es
       by (inl (m, g, i, x)) (es, y) = ((length f - length g) ∷ es, Entries.entry x y)
       by (inr (m, x)) y = ([], Entries.none x)
 
-  pub some-index : {f : Bytes} {t : Table} → Holds d f t → (es : List ℕ) × Index d f es
-  some-index {t} h = some-entries h (length t) 0 (omega arith)
+  pub some_index : {f : Bytes} {t : Table} → Holds d f t → (es : List ℕ) × Index d f es
+  some_index {t} h = some-entries h (length t) 0 (omega arith)
 
   -- the empty file's has no entry
   pub empty-index : Index d [] []
@@ -192,9 +192,9 @@ module _ {d : Dialect} where
   -- the entry of a number is where its record begins
   pub entry_at :
       {f : Bytes} {j : ℕ} {es : List ℕ} → Entries d f j es → (i : ℕ) → i < length es
-      → (g h : Bytes) × (cs : List Content) × RecordAt d f ((j + i) * indexStep) g cs h × (get_or es i 0 ≡ length f - length g)
+      → (g h : Bytes) × (cs : List Content) × RecordAt d f ((j + i) * index_step) g cs h × (get_or es i 0 ≡ length f - length g)
   entry_at (Entries.none n) i l = absurd (omega arith)
-  entry_at {f} {j} (Entries.entry {g} {h} {cs} x y) zero l = (g, h, cs, subst (λ (k : ℕ). RecordAt d f (k * indexStep) g cs h) (omega arith) x, refl)
+  entry_at {f} {j} (Entries.entry {g} {h} {cs} x y) zero l = (g, h, cs, subst (λ (k : ℕ). RecordAt d f (k * index_step) g cs h) (omega arith) x, refl)
   entry_at {f} {j} (Entries.entry x y) (suc i) l =
       let (g, h, cs, z, e) = entry_at y i (omega arith) in
-      (g, h, cs, subst (λ (k : ℕ). RecordAt d f (k * indexStep) g cs h) (omega arith) z, e)
+      (g, h, cs, subst (λ (k : ℕ). RecordAt d f (k * index_step) g cs h) (omega arith) z, e)

@@ -14,46 +14,46 @@ use Rattle.format.specs.Memory.{text_of}
 use Rattle.format.specs.Place.{place, nowhere}
 
 -- what a table comes to, with its report
-abbrev pub totalsOf : Table → ℕ → Totals
-totalsOf t r = record { records = length t; fields = record { 0 = length (flatten t) }; text = length (text_of t); report = r }
+abbrev pub totals_of : Table → ℕ → Totals
+totals_of t r = record { records = length t; fields = record { 0 = length (flatten t) }; text = length (text_of t); report = r }
 
 -- The answer to a file has: refusal, line, column, byte, records, fields, text length, report. Accepted, the first four are 0.
-abbrev pub acceptedWith : Totals → Answer
-acceptedWith s = record { refusal = 0; place = nowhere; totals = s }
+abbrev pub accepted_with : Totals → Answer
+accepted_with s = record { refusal = 0; place = nowhere; totals = s }
 
-abbrev pub acceptedAs : Table → ℕ → Answer
-acceptedAs t r = acceptedWith (totalsOf t r)
+abbrev pub accepted_as : Table → ℕ → Answer
+accepted_as t r = accepted_with (totals_of t r)
 
 -- on any refusal the last four are 0
-abbrev pub refusedBy : ℕ → Place → Answer
-refusedBy n p = record { refusal = n; place = p; totals = record { records = 0; fields = record { 0 = 0 }; text = 0; report = 0 } }
+abbrev pub refused_by : ℕ → Place → Answer
+refused_by n p = record { refusal = n; place = p; totals = record { records = 0; fields = record { 0 = 0 }; text = 0; report = 0 } }
 
 -- refusal, line, column, byte, written length; byte is the index of the text byte, the field or the record
-abbrev pub writerNumbers : Written → List ℕ
-writerNumbers (Whole n) = 0 ∷ 0 ∷ 0 ∷ 0 ∷ n ∷ []
-writerNumbers UnknownMode = 1 ∷ 0 ∷ 0 ∷ 0 ∷ 0 ∷ []
-writerNumbers Malformed = 14 ∷ 0 ∷ 0 ∷ 0 ∷ 0 ∷ []
-writerNumbers (Forbidden b) = 3 ∷ 0 ∷ 0 ∷ b.0 ∷ 0 ∷ []
-writerNumbers (LongContent k) = 9 ∷ 0 ∷ 0 ∷ k.0 ∷ 0 ∷ []
-writerNumbers (Uneven r) = 10 ∷ 0 ∷ 0 ∷ r.0 ∷ 0 ∷ []
-writerNumbers LongFile = 2 ∷ 0 ∷ 0 ∷ 0 ∷ 0 ∷ []
-writerNumbers NoRoom = 15 ∷ 0 ∷ 0 ∷ 0 ∷ 0 ∷ []
+abbrev pub writer_numbers : Written → List ℕ
+writer_numbers (Whole n) = 0 ∷ 0 ∷ 0 ∷ 0 ∷ n ∷ []
+writer_numbers UnknownMode = 1 ∷ 0 ∷ 0 ∷ 0 ∷ 0 ∷ []
+writer_numbers Malformed = 14 ∷ 0 ∷ 0 ∷ 0 ∷ 0 ∷ []
+writer_numbers (Forbidden b) = 3 ∷ 0 ∷ 0 ∷ b.0 ∷ 0 ∷ []
+writer_numbers (LongContent k) = 9 ∷ 0 ∷ 0 ∷ k.0 ∷ 0 ∷ []
+writer_numbers (Uneven r) = 10 ∷ 0 ∷ 0 ∷ r.0 ∷ 0 ∷ []
+writer_numbers LongFile = 2 ∷ 0 ∷ 0 ∷ 0 ∷ 0 ∷ []
+writer_numbers NoRoom = 15 ∷ 0 ∷ 0 ∷ 0 ∷ 0 ∷ []
 
 -- refusal, and the place 0, 0 and a column of the table: the one found, or for 16 the later of the two
-abbrev pub searchNumbers : Found → List ℕ
-searchNumbers (At k) = 0 ∷ 0 ∷ 0 ∷ k.0 ∷ []
-searchNumbers Unfit = 14 ∷ 0 ∷ 0 ∷ 0 ∷ []
-searchNumbers (Twice k) = 16 ∷ 0 ∷ 0 ∷ k.0 ∷ []
-searchNumbers Missing = 17 ∷ 0 ∷ 0 ∷ 0 ∷ []
+abbrev pub search_numbers : Found → List ℕ
+search_numbers (At k) = 0 ∷ 0 ∷ 0 ∷ k.0 ∷ []
+search_numbers Unfit = 14 ∷ 0 ∷ 0 ∷ 0 ∷ []
+search_numbers (Twice k) = 16 ∷ 0 ∷ 0 ∷ k.0 ∷ []
+search_numbers Missing = 17 ∷ 0 ∷ 0 ∷ 0 ∷ []
 
 -- found (1, or 0 for the stand-in), start, length
-abbrev pub partNumbers : Part → List ℕ
-partNumbers (Lies start n) = 1 ∷ start.0 ∷ n ∷ []
-partNumbers Absent = 0 ∷ 0 ∷ 0 ∷ []
+abbrev pub part_numbers : Part → List ℕ
+part_numbers (Lies start n) = 1 ∷ start.0 ∷ n ∷ []
+part_numbers Absent = 0 ∷ 0 ∷ 0 ∷ []
 
 -- The answer to an index has: refusal, line, column, byte, entries. Accepted, the first four are 0; refused, the last is.
-abbrev pub indexedBy : ℕ → Indexed
-indexedBy n = record { refusal = 0; place = nowhere; entries = n }
+abbrev pub indexed_by : ℕ → Indexed
+indexed_by n = record { refusal = 0; place = nowhere; entries = n }
 
 abbrev pub unindexed : ℕ → Place → Indexed
 unindexed n p = record { refusal = n; place = p; entries = 0 }
@@ -62,5 +62,5 @@ unindexed n p = record { refusal = n; place = p; entries = 0 }
 abbrev pub lies_at : ℕ → ℕ → Jumped
 lies_at start n = record { refusal = 0; place = nowhere; start = record { 0 = start }; length = n }
 
-abbrev pub liesNowhere : ℕ → Jumped
-liesNowhere n = record { refusal = n; place = nowhere; start = record { 0 = 0 }; length = 0 }
+abbrev pub lies_nowhere : ℕ → Jumped
+lies_nowhere n = record { refusal = n; place = nowhere; start = record { 0 = 0 }; length = 0 }

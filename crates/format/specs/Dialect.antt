@@ -14,7 +14,7 @@ bit_of bytes = 8
 
 -- the byte that delimits, and which leniencies are on
 pub record Dialect : Type 0 where
-  pub delimiterByte : ℕ
+  pub delimiter_byte : ℕ
   pub allows : Leniency → Bool
 
 -- the dialect of a delimiter byte and a sum, which names the leniencies whose bits it has
@@ -22,7 +22,7 @@ abbrev pub names : ℕ → Leniency → Bool
 names sum l = eqb (sum / bit_of l % 2) 1
 
 abbrev pub dialect : ℕ → ℕ → Dialect
-dialect b sum = record { delimiterByte = b; allows = names sum }
+dialect b sum = record { delimiter_byte = b; allows = names sum }
 
 -- comma with sum 0
 abbrev pub strict : Dialect
@@ -41,24 +41,24 @@ pub data Class : Type 0 where
   text blank delimiter quote CR LF forbidden : Class
 
 -- 0x21 to 0x7E
-abbrev pub isPrintable : ℕ → Bool
-isPrintable b = leb 0x21 b && leb b 0x7E
+abbrev pub is_printable : ℕ → Bool
+is_printable b = leb 0x21 b && leb b 0x7E
 
 -- what the leniency "bytes" allows: tab, and 0x80 to 0xFF
 abbrev pub is_wide : ℕ → Bool
 is_wide b = eqb b 0x09 || (leb 0x80 b && leb b 0xFF)
 
 -- where m delimits, only "bytes" allows the byte b: it is such a one, and not m
-abbrev pub onlyWide : ℕ → ℕ → Bool
-onlyWide m b = is_wide b && not (eqb b m)
+abbrev pub only_wide : ℕ → ℕ → Bool
+only_wide m b = is_wide b && not (eqb b m)
 
 -- The delimiter comes first: with another one comma is text, and tab as delimiter needs no leniency. 0x20 is a blank where "blanks" is on, and else text.
-unfoldable pub classOf : Dialect → ℕ → Class
-classOf d b =
-    cond (eqb b d.delimiterByte) delimiter
+unfoldable pub class_of : Dialect → ℕ → Class
+class_of d b =
+    cond (eqb b d.delimiter_byte) delimiter
     (cond (eqb b 0x22) quote
     (cond (eqb b 0x0D) CR
     (cond (eqb b 0x0A) LF
     (cond (eqb b 0x20) (cond (d.allows blanks) blank text)
-    (cond (isPrintable b) text
+    (cond (is_printable b) text
     (cond (is_wide b) (cond (d.allows bytes) text forbidden) forbidden))))))

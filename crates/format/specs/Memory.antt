@@ -17,8 +17,8 @@ lengths n (l ∷ ls) = (n + length l) ∷ lengths (n + length l) ls
 abbrev pub text_of : Table → Bytes
 text_of t = flatten (flatten t)
 
-abbrev pub endsOf : Table → List ℕ
-endsOf t = lengths 0 (flatten t)
+abbrev pub ends_of : Table → List ℕ
+ends_of t = lengths 0 (flatten t)
 
 abbrev pub rows_of : Table → List ℕ
 rows_of t = lengths 0 t
@@ -30,9 +30,9 @@ Ordered R n (m ∷ l) = R n m × Ordered R m l
 
 -- rows rise strictly from at least 1, and ends never fall; the last of each is the length that it counts up to
 pub record WellFormed (text : Bytes) (ends rows : List ℕ) : Type 0 where
-  pub rows-rise : Ordered ◌<◌ 0 rows
+  pub rows_rise : Ordered ◌<◌ 0 rows
   pub last_row : last_of 0 rows ≡ length ends
-  pub ends-never-fall : Ordered ◌≤◌ 0 ends
+  pub ends_never_fall : Ordered ◌≤◌ 0 ends
   pub last_end : last_of 0 ends ≡ length text
   pub no_rows : rows ≡ [] → (ends ≡ []) × (text ≡ [])
 

@@ -11,18 +11,18 @@ abbrev pub nowhere : Place
 nowhere = place 0 0 0
 
 -- LF bytes, quoted ones included
-unfoldable pub lineFeeds : Bytes → ℕ
-lineFeeds [] = 0
-lineFeeds (b ∷ f) = cond (eqb b 0x0A) 1 0 + lineFeeds f
+unfoldable pub line_feeds : Bytes → ℕ
+line_feeds [] = 0
+line_feeds (b ∷ f) = cond (eqb b 0x0A) 1 0 + line_feeds f
 
 -- the bytes since the last LF, or all where there is none: bytes are left out as long as an LF is among what is left
-unfoldable pub sinceLf : Bytes → Bytes
-sinceLf [] = []
-sinceLf (b ∷ f) = cond (eqb (lineFeeds (b ∷ f)) 0) (b ∷ f) (sinceLf f)
+unfoldable pub since_lf : Bytes → Bytes
+since_lf [] = []
+since_lf (b ∷ f) = cond (eqb (line_feeds (b ∷ f)) 0) (b ∷ f) (since_lf f)
 
 -- the place behind these bytes: the line is 1 plus the LF bytes before it, the column 1 plus the bytes since the last LF, and bytes count from 0
 unfoldable pub behind : Bytes → Place
-behind f = place (1 + lineFeeds f) (1 + length (sinceLf f)) (length f)
+behind f = place (1 + line_feeds f) (1 + length (since_lf f)) (length f)
 
 -- where the rest g of the file f begins
 unfoldable pub place_of : Bytes → Bytes → Place

@@ -14,8 +14,8 @@ Table = List (List Content)
 
 -- whether the last record has its line break; where it has none, the bytes of that record
 pub data Ending : Type 0 where
-  with-break : Ending
-  without-break : Bytes → Ending
+  with_break : Ending
+  without_break : Bytes → Ending
 
 -- each element of a list has the property P
 abbrev pub Every : {A : Type 0} → (A → Type 0) → List A → Type 0

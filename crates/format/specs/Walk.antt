@@ -24,18 +24,18 @@ pub data NoRecord (d : Dialect) (f : Bytes) (k : ℕ) : Type 0 where
 -- a walk from f meets a fault of 3 to 8 before record k has ended: in a record before it or in itself, a CR or an LF that stands where its line break should be, and 6
 -- and 8 at the file's length, included
 pub data FaultBefore (d : Dialect) (f : Bytes) (k : ℕ) : Type 0 where
-  fault-before : {n : ℕ} {g h found named : Bytes} {t : Table} {cs : List Content}
+  fault_before : {n : ℕ} {g h found named : Bytes} {t : Table} {cs : List Content}
       → Records d f t g → length t ≤ k → Fields d g cs h → FieldFault d n h found named → FaultBefore d f k
 
 -- An index has an entry for each so many records.
-abbrev pub indexStep : ℕ
-indexStep = 64
+abbrev pub index_step : ℕ
+index_step = 64
 
 -- the entries of the file f from number j on: each is the byte offset where its record begins, and they go on as long as there is such a record
 pub data Entries (d : Dialect) (f : Bytes) : ℕ → List ℕ → Type 0 where
-  none : {j : ℕ} → NoRecord d f (j * indexStep) → Entries d f j []
+  none : {j : ℕ} → NoRecord d f (j * index_step) → Entries d f j []
   entry : {j : ℕ} {g h : Bytes} {cs : List Content} {es : List ℕ}
-      → RecordAt d f (j * indexStep) g cs h → Entries d f (suc j) es → Entries d f j ((length f - length g) ∷ es)
+      → RecordAt d f (j * index_step) g cs h → Entries d f (suc j) es → Entries d f j ((length f - length g) ∷ es)
 
 -- the index of a file: of records 0, 64, 128 and so on
 abbrev pub Index : Dialect → Bytes → List ℕ → Type 0
@@ -44,4 +44,4 @@ Index d f es = Entries d f 0 es
 -- where a walk may begin by an entry: not above the file length, and straight behind an LF where it is above 0
 pub record Usable (f : Bytes) (e : ℕ) : Type 0 where
   pub within : e ≤ length f
-  pub behind-lf : 0 < e → get_or f (e - 1) 0 ≡ 0x0A
+  pub behind_lf : 0 < e → get_or f (e - 1) 0 ≡ 0x0A

@@ -2,7 +2,7 @@
 ghost use Rattle.std.specs.Prelude.{◌≡◌, Bool, true, ℕ, ◌<◌, List, length};
 ghost use Rattle.format.specs.Dialect.{Dialect};
 ghost use Rattle.steps.specs.Steps.{quoted};
-ghost use Rattle.steps.specs.Numbers.{formNumber};
+ghost use Rattle.steps.specs.Numbers.{form_number};
 ghost use Rattle.fill.specs.Walk.{Wrote, NoQuote, Inside, between};
 
 use fill::Head;
@@ -37,7 +37,7 @@ pub fn pass_inside(file: &[u8], p: Head, text: &mut [u8]) -> Head
 
 // Whether the walk is between quotes, before a byte.
 fn is_inside(p: Head, end: usize) -> bool
-    ensures { result ≡ true → (p.form ≡ formNumber quoted) × (p.held ≡ 0) × (p.at < end) }
+    ensures { result ≡ true → (p.form ≡ form_number quoted) × (p.held ≡ 0) × (p.at < end) }
 {
     (p.form == steps::QUOTED) & (p.held == 0) & (p.at < end)
 }

@@ -8,14 +8,14 @@ use Rattle.format.specs.Table.{Bytes, Table}
 use Rattle.format.specs.Dialect.{Dialect}
 use Rattle.format.specs.House.{empty}
 use Rattle.format.specs.Refusal.{Records}
-use Rattle.format.specs.Walk.{Holds, RecordAt, indexStep, Entries, Index}
+use Rattle.format.specs.Walk.{Holds, RecordAt, index_step, Entries, Index}
 use Rattle.format.specs.Filling.{over, Filling}
 use Rattle.format.proofs.Filling.{begin, move, push}
 use Rattle.format.proofs.Grow.{records-more}
 use Rattle.format.proofs.Walk.{holds-behind, records-shorter, fault-later, entries-hold}
 use Rattle.steps.proofs.Walks.{one-record, record-not-none, no-fault, next-record, entries-end}
 use Rattle.jump.specs.declared.Passed.{TheVariants.Fault, TheVariants.To}
-use Rattle.jump.specs.Pass.{Passing, in-fault, through, out}
+use Rattle.jump.specs.Pass.{Passing, in_fault, through, out}
 use Rattle.jump.proofs.Passes.{drop-some}
 
 -- passing records goes on
@@ -33,8 +33,8 @@ module _ (d : Dialect) (f : Bytes) (target : List ℕ) where
     pub rest : List ℕ
     pub entries : Entries d f k rest
     pub fills : Filling index k rest target
-    pub inside : at < length f → (t : Table) × Records d f t (drop at f) × (length t ≡ k * indexStep)
-    pub over-all : length f ≤ at → rest ≡ []
+    pub inside : at < length f → (t : Table) × Records d f t (drop at f) × (length t ≡ k * index_step)
+    pub over_all : length f ≤ at → rest ≡ []
 
   -- nothing is left to write, for lack of room or at the file's end
   done : {index : List ℕ} {at k : ℕ} (w : Noting index at k) → w.rest ≡ [] → index ≡ target
@@ -48,7 +48,7 @@ module _ (d : Dialect) (f : Bytes) (target : List ℕ) where
       nil (x ∷ es) e = absurd (omega (arith, e))
 
   pub done-over : {index : List ℕ} {at k : ℕ} → Noting index at k → length f ≤ at → index ≡ target
-  done-over w l = done w (w.over-all l)
+  done-over w l = done w (w.over_all l)
 
   module _ {index : List ℕ} {at k : ℕ} (w : Noting index at k) (h : at < length f) where
     -- the next entry is this place
@@ -59,30 +59,30 @@ module _ (d : Dialect) (f : Bytes) (target : List ℕ) where
         let (i, cs, y) = next-record d o r e (drop-some f at h) in
         by x y
       where
-        by : {es : List ℕ} {i : Bytes} {cs : List _} → Entries d f k es → RecordAt d f (k * indexStep) (drop at f) cs i → (us : List ℕ) × (es ≡ at ∷ us) × Entries d f (suc k) us
+        by : {es : List ℕ} {i : Bytes} {cs : List _} → Entries d f k es → RecordAt d f (k * index_step) (drop at f) cs i → (us : List ℕ) × (es ≡ at ∷ us) × Entries d f (suc k) us
         by (Entries.none n) y = absurd (record-not-none d y n)
         by (Entries.entry {es = us} z v) y =
             let q = ap length (one-record d z y).0 in
             (us, ap (λ (n : ℕ). n ∷ us) (omega (arith, q, length-drop at f)), v)
 
-    pub no-fault-here : Passing d f at indexStep Fault → ⊥
-    no-fault-here (in-fault x) =
+    pub no-fault-here : Passing d f at index_step Fault → ⊥
+    no-fault-here (in_fault x) =
         let (t, r, e) = w.inside h in
         let (u, o) = entries-hold w.entries in
         no-fault d o (fault-later r refl x)
 
-    pub noting-more : {next : ℕ} → Passing d f at indexStep (To next) → Noting (set index k at) next (k + 1)
+    pub noting-more : {next : ℕ} → Passing d f at index_step (To next) → Noting (set index k at) next (k + 1)
     noting-more {next} p =
         let (t, r, e) = w.inside h in
         let (us, q, x) = next-entry w.rest w.entries in
         let v : Entries d f (k + 1) us = subst (λ (n : ℕ). Entries d f n us) (omega arith) x in
-        record { rest = us; entries = v; fills = push target (move q w.fills); inside = on e r p; over-all = ended e r v p }
+        record { rest = us; entries = v; fills = push target (move q w.fills); inside = on e r p; over_all = ended e r v p }
       where
-        on : {t : Table} → length t ≡ k * indexStep → Records d f t (drop at f) → Passing d f at indexStep (To next) → next < length f → (t : Table) × Records d f t (drop next f) × (length t ≡ (k + 1) * indexStep)
+        on : {t : Table} → length t ≡ k * index_step → Records d f t (drop at f) → Passing d f at index_step (To next) → next < length f → (t : Table) × Records d f t (drop next f) × (length t ≡ (k + 1) * index_step)
         on {t} e r (through {t = u} s i j) l = (t ++ u, records-more d r s, omega (arith, e, i, length-append t u))
         on e r (out x i j) l = absurd (omega (arith, j))
 
-        ended : {t : Table} {us : List ℕ} → length t ≡ k * indexStep → Records d f t (drop at f) → Entries d f (k + 1) us → Passing d f at indexStep (To next) → length f ≤ next → us ≡ []
+        ended : {t : Table} {us : List ℕ} → length t ≡ k * index_step → Records d f t (drop at f) → Entries d f (k + 1) us → Passing d f at index_step (To next) → length f ≤ next → us ≡ []
         ended e r v (through s i j) l = absurd (omega arith)
         ended {t} e r v (out {t = u} x i j) l = entries-end d (holds-behind r x) (omega (arith, e, i, length-append t u)) v
 
@@ -94,5 +94,5 @@ noting-first d f es index x l =
       entries = x;
       fills = begin es l;
       inside = λ h. ([], Records.none, refl);
-      over-all = λ h. entries-end d (subst (λ (g : Bytes). Holds d g []) (sym (drop_of_length-le f h)) (Holds.nothing empty)) (omega arith) x;
+      over_all = λ h. entries-end d (subst (λ (g : Bytes). Holds d g []) (sym (drop_of_length-le f h)) (Holds.nothing empty)) (omega arith) x;
     }

@@ -7,12 +7,12 @@ use lib.ListN.{length}
 use Rattle.format.specs.declared.Answer.{Answer}
 use Rattle.format.specs.Table.{Bytes}
 use Rattle.format.specs.Dialect.{dialect}
-use Rattle.format.specs.House.{fileLimit}
+use Rattle.format.specs.House.{file_limit}
 use Rattle.format.specs.Place.{nowhere}
-use Rattle.format.specs.Walk.{indexStep, Index}
-use Rattle.format.specs.Answer.{indexedBy, unindexed}
+use Rattle.format.specs.Walk.{index_step, Index}
+use Rattle.format.specs.Answer.{indexed_by, unindexed}
 use Rattle.format.specs.Filling.{over}
-use Rattle.format.proofs.Walk.{reading-holds, some-index}
+use Rattle.format.proofs.Walk.{reading-holds, some_index}
 use Rattle.steps.proofs.Walks.{entries-count}
 use Rattle.pieces.specs.Answers.{Answers, accepted, refused}
 use Rattle.pieces.proofs.Stands.{Takes, takes}
@@ -25,22 +25,22 @@ module _ {b sum : ℕ} {f : Bytes} {index : List ℕ} where
   declines (refused h) n = IndexOutcome.refused h
 
   pub lacks-room :
-      {a : Answer} {n : ℕ} → Takes b sum f a → n ≡ (a.totals.records + indexStep - 1) / indexStep → length index < n
+      {a : Answer} {n : ℕ} → Takes b sum f a → n ≡ (a.totals.records + index_step - 1) / index_step → length index < n
       → IndexOutcome b sum f index (unindexed 19 nowhere) index
   lacks-room (takes h) e l =
-      let x = some-index (reading-holds h.reading) in
+      let x = some_index (reading-holds h.reading) in
       IndexOutcome.no_room h x.1 (omega (arith, e, entries-count (dialect b sum) (reading-holds h.reading) x.1))
 
   pub builds :
-      {a : Answer} {n : ℕ} {index' : List ℕ} → Takes b sum f a → n ≡ (a.totals.records + indexStep - 1) / indexStep → n ≤ length index
+      {a : Answer} {n : ℕ} {index' : List ℕ} → Takes b sum f a → n ≡ (a.totals.records + index_step - 1) / index_step → n ≤ length index
       → ((es : List ℕ) → Index (dialect b sum) f es → length es ≤ length index → index' ≡ over es index)
-      → IndexOutcome b sum f index (indexedBy n) index'
+      → IndexOutcome b sum f index (indexed_by n) index'
   builds {n = n} (takes h) e l w =
-      let (es, x) = some-index (reading-holds h.reading) in
+      let (es, x) = some_index (reading-holds h.reading) in
       let q = entries-count (dialect b sum) (reading-holds h.reading) x in
       let m : length es ≤ length index = omega (arith, e, q) in
-      let z : IndexOutcome b sum f index (indexedBy (length es)) (over es index) = IndexOutcome.built h x m in
-      subst (λ (l : List ℕ). IndexOutcome b sum f index (indexedBy n) l) (sym (w es x m)) (subst (λ (k : ℕ). IndexOutcome b sum f index (indexedBy k) (over es index)) (q ∙ sym e) z)
+      let z : IndexOutcome b sum f index (indexed_by (length es)) (over es index) = IndexOutcome.built h x m in
+      subst (λ (l : List ℕ). IndexOutcome b sum f index (indexed_by n) l) (sym (w es x m)) (subst (λ (k : ℕ). IndexOutcome b sum f index (indexed_by k) (over es index)) (q ∙ sym e) z)
 
-pub within-limit : {b sum : ℕ} {f : Bytes} {a : Answer} → Takes b sum f a → length f ≤ fileLimit
-within-limit (takes h) = h.short
+pub within_limit : {b sum : ℕ} {f : Bytes} {a : Answer} → Takes b sum f a → length f ≤ file_limit
+within_limit (takes h) = h.short

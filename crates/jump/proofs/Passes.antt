@@ -12,14 +12,14 @@ use Rattle.format.specs.Table.{Bytes, Table}
 use Rattle.format.specs.Dialect.{Dialect}
 use Rattle.format.specs.House.{empty}
 use Rattle.format.specs.Refusal.{LineEnd, Records}
-use Rattle.format.specs.Walk.{Holds, no_record, fault-before}
+use Rattle.format.specs.Walk.{Holds, no_record, fault_before}
 use Rattle.format.proofs.Grow.{records-more}
 use Rattle.format.proofs.Walk.{holds-last, holds-behind, found_at, line-broken, break-shorter}
-use Rattle.format.specs.Answer.{lies_at, liesNowhere}
+use Rattle.format.specs.Answer.{lies_at, lies_nowhere}
 use Rattle.jump.specs.declared.Ended.{TheVariants.Fault, TheVariants.At}
 use Rattle.jump.specs.declared.Passed.{TheVariants.Fault as Faulty, TheVariants.To}
 use Rattle.jump.specs.Jump.{WalkOutcome, fault, none, found}
-use Rattle.jump.specs.Pass.{Ending, in-fault, ending, Passing, through, out}
+use Rattle.jump.specs.Pass.{Ending, in_fault, ending, Passing, through, out}
 
 pub drop-some : (f : Bytes) (at : ℕ) → at < length f → drop at f ≡ [] → ⊥
 drop-some f at h e = omega (arith, ap length (sym (drop-cons f at 0 h) ∙ e))
@@ -56,7 +56,7 @@ module _ (d : Dialect) (f : Bytes) (from n : ℕ) where
     passes_over h = let (t, r, q) = w.over h in out {to = at} r (omega (arith, q)) (omega (arith, w.within))
 
     pub passes-fault : at < length f → Ending d f at Fault → Passing d f from n Faulty
-    passes-fault h (in-fault x y) = let (t, r, q) = w.inside h in in-fault (fault-before r (omega (arith, q)) x y)
+    passes-fault h (in_fault x y) = let (t, r, q) = w.inside h in in_fault (fault_before r (omega (arith, q)) x y)
 
     pub passes-more : {end next : ℕ} → at < length f → (left ≡ 0 → ⊥) → Ending d f at (At end next) → Passes next (left - 1)
     passes-more {end} {next} h u (ending {cs} r l i j k) =
@@ -72,16 +72,16 @@ module _ (d : Dialect) (f : Bytes) (from n : ℕ) where
 
 -- what a walk from a place finds that passes n records: by what passing them gives, and by the end of the record behind them
 module _ {d : Dialect} {f : Bytes} {from n : ℕ} where
-  pub walk-fault : Passing d f from n Faulty → WalkOutcome d f (drop from f) n (liesNowhere 20)
-  walk-fault (in-fault x) = fault x
+  pub walk-fault : Passing d f from n Faulty → WalkOutcome d f (drop from f) n (lies_nowhere 20)
+  walk-fault (in_fault x) = fault x
 
   module _ {at : ℕ} where
-    pub walk_none : Passing d f from n (To at) → length f ≤ at → WalkOutcome d f (drop from f) n (liesNowhere 18)
+    pub walk_none : Passing d f from n (To at) → length f ≤ at → WalkOutcome d f (drop from f) n (lies_nowhere 18)
     walk_none (through r e l) h = absurd (omega arith)
     walk_none (out x l e) h = none (no_record x l)
 
-    pub walk-late : Passing d f from n (To at) → at < length f → Ending d f at Fault → WalkOutcome d f (drop from f) n (liesNowhere 20)
-    walk-late (through r e l) h (in-fault x y) = fault (fault-before r (omega (arith, e)) x y)
+    pub walk-late : Passing d f from n (To at) → at < length f → Ending d f at Fault → WalkOutcome d f (drop from f) n (lies_nowhere 20)
+    walk-late (through r e l) h (in_fault x y) = fault (fault_before r (omega (arith, e)) x y)
     walk-late (out x l e) h y = absurd (omega (arith, e))
 
     pub walk-found :

@@ -3,18 +3,18 @@
 // specs/Jump.antt says what building and asking promise; format's specs/Walk.antt where a record begins
 // and ends. A walk goes by the table of steps and judges no limit and no width.
 ghost use Rattle.std.specs.Prelude.{◌≡◌, true, false, ◌||◌, List, ℕ, ◌≤◌, eqb, leb, length, drop};
-ghost use Rattle.format.specs.Dialect.{lf, names, dialect, classOf};
-ghost use Rattle.format.specs.House.{fileLimit};
+ghost use Rattle.format.specs.Dialect.{lf, names, dialect, class_of};
+ghost use Rattle.format.specs.House.{file_limit};
 ghost use Rattle.format.specs.Place.{place, nowhere};
 ghost use Rattle.format.specs.Filling.{over};
 ghost use Rattle.format.specs.Walk.{Index, Usable};
-ghost use Rattle.format.specs.Answer.{unindexed, liesNowhere};
+ghost use Rattle.format.specs.Answer.{unindexed, lies_nowhere};
 ghost use Rattle.steps.specs.Steps.{quoted, cr, step_of};
-ghost use Rattle.steps.specs.Numbers.{formNumber, form_of, coded};
+ghost use Rattle.steps.specs.Numbers.{form_number, form_of, coded};
 ghost use Rattle.words.specs.Words.{Marks, is_row};
 ghost use Rattle.pieces.specs.Answers.{Answers};
 ghost use Rattle.jump.specs.Jump.{IndexOutcome, WalkOutcome, JumpOutcome, PartOutcome};
-ghost use Rattle.jump.specs.Pass.{formBehind, PairsEnd, RowEnd, rowForm, Skips, Ending, Passing};
+ghost use Rattle.jump.specs.Pass.{form_behind, PairsEnd, RowEnd, row_form, Skips, Ending, Passing};
 
 use format::{Answer, ByteOffset, Indexed, Jumped, Place};
 use steps::Stepped;
@@ -100,7 +100,7 @@ fn not_indexed(refusal: u32, place: Place) -> Indexed
 
 // Writes the entries of a file that has an index.
 fn write_entries(file: &[u8], delimiter: u8, leniencies: u8, index: &mut [u32])
-    requires { length file.now ≤ fileLimit }
+    requires { length file.now ≤ file_limit }
     ensures { (es : List ℕ) → Index (dialect delimiter leniencies) file.now es → length es ≤ length index.old → index.new ≡ over es index.old }
 {
     let marks = words::row_table(delimiter, leniencies);
@@ -180,7 +180,7 @@ fn is_usable(file: &[u8], at: usize) -> bool
 
 // Where the next record lies once n are passed from a place on.
 fn walk_to(file: &[u8], delimiter: u8, leniencies: u8, from: usize, n: usize) -> Jumped
-    requires { (length file.now ≤ fileLimit) × (from ≤ length file.now) }
+    requires { (length file.now ≤ file_limit) × (from ≤ length file.now) }
     ensures { WalkOutcome (dialect delimiter leniencies) file.now (drop from file.now) n result }
 {
     let marks = words::row_table(delimiter, leniencies);
@@ -202,7 +202,7 @@ fn walk_to(file: &[u8], delimiter: u8, leniencies: u8, from: usize, n: usize) ->
 }
 
 fn not_found(refusal: u32) -> Jumped
-    ensures { result ≡ liesNowhere refusal }
+    ensures { result ≡ lies_nowhere refusal }
 {
     Jumped {
         refusal,
@@ -271,7 +271,7 @@ fn record_end(marks: &[bool; 256], file: &[u8], delimiter: u8, leniencies: u8, f
 
 // Whether a file that ends in a form ends in a fault: in open quotes, or behind a CR.
 fn is_fault_at_end(form: u8) -> bool
-    ensures { result ≡ (eqb form (formNumber quoted) || leb (formNumber cr) form) }
+    ensures { result ≡ (eqb form (form_number quoted) || leb (form_number cr) form) }
 {
     (form == steps::QUOTED) | (steps::AFTER_CR <= form)
 }
@@ -333,7 +333,7 @@ fn row_end(marks: &[bool; 256], file: &[u8], from: usize) -> usize
 
 // The form behind a byte of a row of bare fields.
 fn row_form(delimiter: u8, last: u8) -> u8
-    ensures { result ≡ rowForm delimiter last }
+    ensures { result ≡ row_form delimiter last }
 {
     if last == delimiter {
         steps::START
@@ -344,7 +344,7 @@ fn row_form(delimiter: u8, last: u8) -> u8
 
 // What a byte makes of the form of the field that it stands in.
 fn form_behind(delimiter: u8, leniencies: u8, form: u8, b: u8) -> u8
-    ensures { result ≡ formBehind (coded (step_of (names leniencies lf) (form_of form) (classOf (dialect delimiter leniencies) b))) }
+    ensures { result ≡ form_behind (coded (step_of (names leniencies lf) (form_of form) (class_of (dialect delimiter leniencies) b))) }
 {
     let s = steps::step(delimiter, leniencies, form, b);
     match s {

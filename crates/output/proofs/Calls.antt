@@ -12,7 +12,7 @@ use Rattle.format.proofs.Memory.{lengths_none}
 use Rattle.steps.specs.Steps.{start}
 use Rattle.format.proofs.Classes.{decide}
 use Rattle.state.specs.declared.Check.{Check}
-use Rattle.state.specs.Check.{started, fed, fedAll}
+use Rattle.state.specs.Check.{started, fed, fed_all}
 use Rattle.state.proofs.Jumps.{fed-join}
 use Rattle.state.proofs.Moves.{fed-none, fed-cons}
 use Rattle.state.proofs.Parts.{started-is}
@@ -22,7 +22,7 @@ use Rattle.format.specs.SoFar.{so_far}
 use Rattle.output.specs.Stream.{shown, is_over, putsText, blanksDue, due, Room, fits, left, Called, idle, onward, stuck, taking, streamed}
 use Rattle.output.specs.Promises.{Awaits, nothing-early, content-next, Stands, going, refused}
 use Rattle.format.proofs.Even.{even-none}
-use Rattle.steps.proofs.Forms.{at-start, at-begun}
+use Rattle.steps.proofs.Forms.{at_start, at-begun}
 use Rattle.output.proofs.Step.{Fresh, Standing, standing, then-nothing, stand-byte, stand-blanks}
 
 -- what stands is out
@@ -44,7 +44,7 @@ started-standing x sum =
       begun = Fresh.none;
       records = Records.none;
       fields = Fields.none;
-      at = at-start;
+      at = at_start;
       content = refl;
       held = refl;
       text = refl;
@@ -67,13 +67,13 @@ then-then o p q =
 one_more : (f : Bytes) (b : ℕ) (g : Bytes) → (f ++ (b ∷ [])) ++ g ≡ f ++ (b ∷ g)
 one_more f b g = append_assoc f (b ∷ []) g
 
-pub fed-one : (b sum : ℕ) (f : Bytes) (x : ℕ) → fedAll (started b sum) (f ++ (x ∷ [])) ≡ fed (fedAll (started b sum) f) x
-fed-one b sum f x = fed-join (started b sum) f (x ∷ []) ∙ (fed-cons (fedAll (started b sum) f) x [] ∙ fed-none (fed (fedAll (started b sum) f) x))
+pub fed-one : (b sum : ℕ) (f : Bytes) (x : ℕ) → fed_all (started b sum) (f ++ (x ∷ [])) ≡ fed (fed_all (started b sum) f) x
+fed-one b sum f x = fed-join (started b sum) f (x ∷ []) ∙ (fed-cons (fed_all (started b sum) f) x [] ∙ fed-none (fed (fed_all (started b sum) f) x))
 
 -- a state inside a session, before the bytes g
 pub data Inv (b sum : ℕ) : Bytes → Bytes → Out → Stream → Type 0 where
   inv-going : {f g : Bytes} {o : Out} {s : Stream}
-      → s.check ≡ fedAll (started b sum) f → shown s.check ≡ false → s.closed ≡ 0 → Standing b sum f s.check s.early o → Awaits s.check s.early g
+      → s.check ≡ fed_all (started b sum) f → shown s.check ≡ false → s.closed ≡ 0 → Standing b sum f s.check s.early o → Awaits s.check s.early g
       → Inv b sum f g o s
   inv-over : {f g : Bytes} {o : Out} {s : Stream} → is_over s ≡ true → ((g : Bytes) → Stands b sum f g o s) → Inv b sum f g o s
 
@@ -105,13 +105,13 @@ awaits-none nothing-early p = refl
 awaits-none (content-next s q) p = let z : ◌≡◌ {A = ℕ} 0 1 = cc in absurd (omega arith)
 
 -- a byte that shows a refusal; one that is taken; one whose output does not fit
-module _ (b sum : ℕ) (f g : Bytes) (o : Out) (s : Stream) (x : ℕ) (p : s.check ≡ fedAll (started b sum) f) (w : Standing b sum f s.check s.early o)
+module _ (b sum : ℕ) (f g : Bytes) (o : Out) (s : Stream) (x : ℕ) (p : s.check ≡ fed_all (started b sum) f) (w : Standing b sum f s.check s.early o)
     (a : Awaits s.check s.early (x ∷ g)) (c₀ : s.closed ≡ 0) (q₀ : shown s.check ≡ false)
   where
     e : Check
     e = fed s.check x
 
-    fed-behind : fed s.check x ≡ fedAll (started b sum) (f ++ (x ∷ []))
+    fed-behind : fed s.check x ≡ fed_all (started b sum) (f ++ (x ∷ []))
     fed-behind = ap (λ (c : Check). fed c x) p ∙ sym (fed-one b sum f x)
 
     shows : shown (fed s.check x) ≡ true → Inv b sum (f ++ (x ∷ [])) g o (onward (fed s.check x))

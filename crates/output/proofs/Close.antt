@@ -13,16 +13,16 @@ use Rattle.format.specs.declared.Answer.{Answer}
 use Rattle.format.specs.Table.{Bytes, Content, Table, Ending, Every}
 use Rattle.format.specs.Dialect.{Dialect, dialect, delimits, Valid}
 use Rattle.format.specs.Grammar.{Blanks, Bare, Field, Record, Break, File}
-use Rattle.format.specs.House.{empty, EndsInBreak, contentLimit, Fits}
+use Rattle.format.specs.House.{empty, EndsInBreak, content_limit, Fits}
 use Rattle.format.specs.Count.{missing}
 use Rattle.format.specs.Refusal.{Fields, Records}
-use Rattle.format.specs.Memory.{lengths, text_of, endsOf, rows_of}
+use Rattle.format.specs.Memory.{lengths, text_of, ends_of, rows_of}
 use Rattle.format.specs.Reading.{Reading, nothing, something}
 use Rattle.state.specs.declared.Check.{Check}
 use Rattle.places.specs.Counters.{plus}
 use Rattle.pieces.specs.Asked.{asked}
 use Rattle.pieces.proofs.Asking.{LastEnds, Asks, asks}
-use Rattle.format.specs.Answer.{acceptedAs}
+use Rattle.format.specs.Answer.{accepted_as}
 use Rattle.output.specs.Out.{Out, nothing as none, then, out_of}
 use Rattle.format.specs.SoFar.{Begun, SoFar, so_far}
 use Rattle.output.specs.Stream.{shown, closeDue}
@@ -31,7 +31,7 @@ use Rattle.format.proofs.Ended.{missing-ended}
 use Rattle.format.proofs.Every.{each-every, every-last}
 use Rattle.format.proofs.Grow.{blanks-join}
 use Rattle.format.proofs.Memory.{flatten-one, lengths-one}
-use Rattle.steps.proofs.Forms.{at-begun, heldIn}
+use Rattle.steps.proofs.Forms.{at-begun, held_in}
 use Rattle.format.proofs.Walk.{file-nil}
 use Rattle.steps.proofs.One.{one-so-far}
 use Rattle.output.proofs.Step.{Standing, standing, Clear, clear, then-nothing}
@@ -49,7 +49,7 @@ record Last (d : Dialect) (f : Bytes) (cs : List Content) : Type 0 where
 -- a file as far as it has come: up to a line break, or inside a record
 data Ends (d : Dialect) (f : Bytes) (t : Table) : Type 0 where
   at-break : SoFar d f t [] [] 0 → Ends d f t
-  in-record : (u : Table) (es : List Content) (e : Content) (m : ℕ) → t ≡ u ++ ((es ++ (e ∷ [])) ∷ []) → SoFar d f u es e m → Ends d f t
+  in_record : (u : Table) (es : List Content) (e : Content) (m : ℕ) → t ≡ u ++ ((es ++ (e ∷ [])) ∷ []) → SoFar d f u es e m → Ends d f t
 
 module _ (d : Dialect) where
   pub field-begun : {f : Bytes} {c : Content} → Field d f c [] → (m : ℕ) × Begun d f c m
@@ -70,10 +70,10 @@ module _ (d : Dialect) where
 
   ends_more : {f g h : Bytes} {cs : List Content} {t : Table} → Record d f cs g → Break d g h → Ends d h t → Ends d f (cs ∷ t)
   ends_more r k (at-break v) = at-break (far-more r k v)
-  ends_more {cs} r k (in-record u es e m q v) = in-record (cs ∷ u) es e m (ap (λ (l : Table). cs ∷ l) q) (far-more r k v)
+  ends_more {cs} r k (in_record u es e m q v) = in_record (cs ∷ u) es e m (ap (λ (l : Table). cs ∷ l) q) (far-more r k v)
 
   file-ends : {f : Bytes} {t : Table} {e : Ending} → File d f t e → Ends d f t
-  file-ends (File.one r) = let z = record-last r in in-record [] z.es z.e z.m (ap (λ (l : List Content). l ∷ []) z.is) (so_far Records.none z.fields z.begun)
+  file-ends (File.one r) = let z = record-last r in in_record [] z.es z.e z.m (ap (λ (l : List Content). l ∷ []) z.is) (so_far Records.none z.fields z.begun)
   file-ends (File.ended r k) = at-break (so_far (Records.more r k Records.none) Fields.none (Begun.empty Blanks.none))
   file-ends (File.more r k p) = ends_more r k (file-ends p)
 
@@ -91,15 +91,15 @@ module _ (c : Check) (w : Clear c) (z : (asked c).refusal ≡ 0) where
     where
       by : (y : Bool) → eqb c.begun 0 ≡ y → Asks c (asked c) → (asked c).totals.fields.0 ≡ cond y c.counts.fields.0 (plus c.counts.fields.0 1)
       by true e (Asks.between i v) = v.fields
-      by true e (Asks.in-quotes i p q) = not-zero 8 refl q
-      by true e (Asks.behind-cr i p q) = not-zero 6 refl q
-      by true e (Asks.in-record i p q v) = absurd (true≢false (sym e ∙ i))
+      by true e (Asks.in_quotes i p q) = not-zero 8 refl q
+      by true e (Asks.behind_cr i p q) = not-zero 6 refl q
+      by true e (Asks.in_record i p q v) = absurd (true≢false (sym e ∙ i))
       by false e (Asks.between i v) = absurd (true≢false (sym i ∙ e))
-      by false e (Asks.in-quotes i p q) = not-zero 8 refl q
-      by false e (Asks.behind-cr i p q) = not-zero 6 refl q
-      by false e (Asks.in-record i p q (LastEnds.ends l y v)) = v.fields
-      by false e (Asks.in-record i p q (LastEnds.long l v)) = not-zero 9 refl v
-      by false e (Asks.in-record i p q (LastEnds.uneven l y v)) = not-zero 10 refl v
+      by false e (Asks.in_quotes i p q) = not-zero 8 refl q
+      by false e (Asks.behind_cr i p q) = not-zero 6 refl q
+      by false e (Asks.in_record i p q (LastEnds.ends l y v)) = v.fields
+      by false e (Asks.in_record i p q (LastEnds.long l v)) = not-zero 9 refl v
+      by false e (Asks.in_record i p q (LastEnds.uneven l y v)) = not-zero 10 refl v
 
 -- contents of a table that is read fit
 pub reading-fits : {d : Dialect} {f : Bytes} {t : Table} {r : ℕ} → Reading d f t r → Every Fits (flatten t)
@@ -127,19 +127,19 @@ out-whole t =
     λ i. record { text = q i; ends = e i; rows = lengths 0 t }
 
 out-last :
-    (t u : Table) (cs : List Content) (c : Content) → t ≡ u ++ ((cs ++ (c ∷ [])) ∷ []) → length c ≤ contentLimit
+    (t u : Table) (cs : List Content) (c : Content) → t ≡ u ++ ((cs ++ (c ∷ [])) ∷ []) → length c ≤ content_limit
     → then (out_of u cs c 0) (record { text = []; ends = length (text_of t) ∷ []; rows = length (flatten t) ∷ [] }) ≡ wholeOut t
 unfolding out_of
 out-last t u cs c e l =
     let y = flatten u ++ cs in
     let row = cs ++ (c ∷ []) in
     let a : flatten t ≡ y ++ (c ∷ []) = flatten-last t u cs c e in
-    let p : take contentLimit (c ++ []) ≡ c = ap (take contentLimit) (append-nil c) ∙ take_all contentLimit c l in
+    let p : take content_limit (c ++ []) ≡ c = ap (take content_limit) (append-nil c) ∙ take_all content_limit c l in
     let v : text_of t ≡ flatten y ++ c = ap flatten a ∙ flatten-one y c in
-    let q : (flatten y ++ take contentLimit (c ++ [])) ++ [] ≡ text_of t =
-    append-nil (flatten y ++ take contentLimit (c ++ [])) ∙ (ap (λ (l : List ℕ). flatten y ++ l) p ∙ sym v) in
+    let q : (flatten y ++ take content_limit (c ++ [])) ++ [] ≡ text_of t =
+    append-nil (flatten y ++ take content_limit (c ++ [])) ∙ (ap (λ (l : List ℕ). flatten y ++ l) p ∙ sym v) in
     let n : length (text_of t) ≡ 0 + length (flatten y) + length c = ap length v ∙ (length-append (flatten y) c ∙ omega arith) in
-    let o : lengths 0 y ++ (length (text_of t) ∷ []) ≡ endsOf t =
+    let o : lengths 0 y ++ (length (text_of t) ∷ []) ≡ ends_of t =
     ap (λ (n : ℕ). lengths 0 y ++ (n ∷ [])) n ∙ (sym (lengths-one 0 y c) ∙ ap (lengths 0) (sym a)) in
     let m : length (flatten t) ≡ 0 + length (flatten u) + length row = ap length (ap flatten e ∙ flatten-one u row) ∙ (length-append (flatten u) row ∙ omega arith) in
     let w : lengths 0 u ++ (length (flatten t) ∷ []) ≡ rows_of t =
@@ -148,14 +148,14 @@ out-last t u cs c e l =
 
 pub closing-out :
     {b sum : ℕ} {f : Bytes} {c : Check} {o : Out} (t : Table) (r : ℕ) → Standing b sum f c 0 o → shown c ≡ false → Reading (dialect b sum) f t r
-    → asked c ≡ acceptedAs t r → then o (closeDue c (acceptedAs t r)) ≡ wholeOut t
+    → asked c ≡ accepted_as t r → then o (closeDue c (accepted_as t r)) ≡ wholeOut t
 unfolding closeDue
 closing-out {b} {sum} {f} {c} {o} t r (standing {k} {t = u} {cs} {c = e} {n} {g} {h} w l q) s p a = by (eqb c.begun 0) refl (reading-ends (dialect b sum) p)
   where
     fields : (y : Bool) → eqb c.begun 0 ≡ y → length (flatten t) ≡ cond y c.counts.fields.0 (plus c.counts.fields.0 1)
     fields y i = rw a at (counted c (clear c s) (ap (λ (x : Answer). x.refusal) a) y i)
 
-    ours : SoFar (dialect b sum) f u cs e (heldIn k n)
+    ours : SoFar (dialect b sum) f u cs e (held_in k n)
     ours = so_far w.records w.fields (at-begun w.at)
 
     by : (y : Bool) → eqb c.begun 0 ≡ y → Ends (dialect b sum) f t
@@ -163,7 +163,7 @@ closing-out {b} {sum} {f} {c} {o} t r (standing {k} {t = u} {cs} {c = e} {n} {g}
     by true i (at-break v) =
         let z = one-so-far (dialect b sum) ours v in
         then-nothing o ∙ (q ∙ ((λ j. out_of (z.0 j) (z.1 j) (z.2 j) 0) ∙ out-whole t))
-    by true i (in-record u' es e' m j v) =
+    by true i (in_record u' es e' m j v) =
         let z = one-so-far (dialect b sum) ours v in
         let y = fields true i in
         let v₁ = w.count in
@@ -178,13 +178,13 @@ closing-out {b} {sum} {f} {c} {o} t r (standing {k} {t = u} {cs} {c = e} {n} {g}
         let v₄ = w.limit in
         let v₃ : length (flatten u ++ cs) ≡ length (flatten t) = (λ j. length (flatten (z.0 j) ++ z.1 j)) ∙ ap length (append-nil (flatten t)) in
         absurd (omega arith)
-    by false i (in-record u' es e' m j v) =
+    by false i (in_record u' es e' m j v) =
         let z = one-so-far (dialect b sum) ours v in
         ap (λ (p : Out). then p (record { text = []; ends = length (text_of t) ∷ []; rows = length (flatten t) ∷ [] })) (q ∙ λ j. out_of (z.0 j) (z.1 j) (z.2 j) 0)
         ∙ out-last t u' es e' j (last_fits u' es e' p j)
 
 -- A file that is empty, or ends in a line break: all of its table is out before the close, which has nothing to put out.
-module _ (d : Dialect) (valid : T (delimits d.delimiterByte)) where
+module _ (d : Dialect) (valid : T (delimits d.delimiter_byte)) where
   broken-far : {f : Bytes} {t : Table} {e : Ending} → missing e ≡ 0 → File d f t e → SoFar d f t [] [] 0
   broken-far z (File.one r) = absurd (omega (arith, z))
   broken-far z (File.ended r k) = so_far (Records.more r k Records.none) Fields.none (Begun.empty Blanks.none)
@@ -206,8 +206,8 @@ then_same o p e =
 
 pub none_left :
     {b sum : ℕ} {f : Bytes} {c : Check} {o : Out} (t : Table) (r : ℕ) → Standing b sum f c 0 o → shown c ≡ false → Valid b sum → Reading (dialect b sum) f t r
-    → asked c ≡ acceptedAs t r → (f ≡ []) ⊎ EndsInBreak f → closeDue c (acceptedAs t r) ≡ none
-none_left {b} {sum} {f} {c} {o} t r w s v p a h = then_same o (closeDue c (acceptedAs t r)) (closing-out t r w s p a ∙ sym (whole w))
+    → asked c ≡ accepted_as t r → (f ≡ []) ⊎ EndsInBreak f → closeDue c (accepted_as t r) ≡ none
+none_left {b} {sum} {f} {c} {o} t r w s v p a h = then_same o (closeDue c (accepted_as t r)) (closing-out t r w s p a ∙ sym (whole w))
   where
     whole : Standing b sum f c 0 o → o ≡ wholeOut t
     whole (standing w l q) =

@@ -88,10 +88,10 @@ told-into s n x y e q i j =
       short = refl;
       closed = refl;
       answer = refl;
-      text-count = refl;
+      text_count = refl;
       ends-count = refl;
       rows-count = refl;
-      text-is = refl;
+      text_is = refl;
       ends_is = i;
       rows_is = j;
     })

@@ -10,11 +10,11 @@ use lib.ListN.{length, drop}
 use borrow.Author.Tests.{le-leb, eqb-false}
 use Rattle.format.specs.Table.{Bytes}
 use Rattle.format.proofs.Classes.{decide}
-use Rattle.steps.specs.Steps.{nothing, put, hold, drop as dropped, field_end, record-end, Act, refuse, go}
+use Rattle.steps.specs.Steps.{nothing, put, hold, drop as dropped, field_end, record_end, Act, refuse, go}
 use Rattle.steps.proofs.Acts.{Proper, step-proper}
 use Rattle.state.specs.declared.Check.{Check}
 use Rattle.state.specs.Check.{fed}
-use Rattle.state.proofs.Byte.{FieldEnds, RecordEnds, Does, actOf, fed-does}
+use Rattle.state.proofs.Byte.{FieldEnds, RecordEnds, Does, act_of, fed-does}
 use Rattle.output.specs.declared.Stream.{Stream}
 use Rattle.output.specs.Out.{Out}
 use Rattle.output.specs.Stream.{shown, is_over, putsText, due, Room, fits, left, Called, onward, streamed, left_of}
@@ -30,7 +30,7 @@ record Held (c r : Check) : Type 0 where
   none : putsText c r ≡ true → r.field.held ≡ 0
 
 held-fed : (c : Check) (b : ℕ) → shown (fed c b) ≡ false → Held c (fed c b)
-held-fed c b s = by (actOf c b) (step-proper _ _ _) (fed-does c b (clear c (shown-before c b s)).refusal)
+held-fed c b s = by (act_of c b) (step-proper _ _ _) (fed-does c b (clear c (shown-before c b s)).refusal)
   where
     -- where content stays as it was, or grows smaller, the byte is no content
     no-puts : {A : Type 0} → (fed c b).field.content ≤ c.field.content → putsText c (fed c b) ≡ true → A
@@ -47,9 +47,9 @@ held-fed c b s = by (actOf c b) (step-proper _ _ _) (fed-does c b (clear c (show
     by (go j dropped) p v = record { most = omega (arith, v.held); none = no-puts (omega (arith, v.content)) }
     by (go j field_end) p (FieldEnds.ends v) = record { most = omega (arith, v.over.held); none = λ q. v.over.held }
     by (go j field_end) p (FieldEnds.long l v) = refused 9 refl v
-    by (go j record-end) p (RecordEnds.ends v) = record { most = omega (arith, v.over.held); none = λ q. v.over.held }
-    by (go j record-end) p (RecordEnds.long l v) = refused 9 refl v
-    by (go j record-end) p (RecordEnds.uneven l y v) = refused 10 refl v
+    by (go j record_end) p (RecordEnds.ends v) = record { most = omega (arith, v.over.held); none = λ q. v.over.held }
+    by (go j record_end) p (RecordEnds.long l v) = refused 9 refl v
+    by (go j record_end) p (RecordEnds.uneven l y v) = refused 10 refl v
 
 abbrev Rests : ℕ → Bytes → Called → Type 0
 Rests n f c = (is_over c.state ≡ true) ⊎ (left_of c.state (drop c.taken f) ≤ n)

@@ -9,14 +9,14 @@ use borrow.Author.Tests.{ne_eqb}
 use Rattle.format.specs.declared.Answer.{Answer}
 use Rattle.format.specs.Table.{Bytes, Table}
 use Rattle.format.specs.Dialect.{dialect}
-use Rattle.format.specs.Answer.{acceptedAs, refusedBy}
+use Rattle.format.specs.Answer.{accepted_as, refused_by}
 use Rattle.format.specs.Reading.{Accepted}
 use Rattle.format.proofs.Classes.{decide}
-use Rattle.steps.specs.Model.{isValid}
+use Rattle.steps.specs.Model.{is_valid}
 use Rattle.steps.proofs.Verdicts.{valid-yes}
 use Rattle.steps.proofs.Theorems.{one-accepted, never_both}
 use Rattle.state.specs.declared.Check.{Check}
-use Rattle.state.specs.Check.{started, fedAll}
+use Rattle.state.specs.Check.{started, fed_all}
 use Rattle.pieces.specs.Asked.{asked}
 use Rattle.pieces.proofs.Asking.{asks-refused}
 use Rattle.format.proofs.Numbers.{refused-number}
@@ -27,15 +27,15 @@ use Rattle.state.proofs.Parts.{started-is}
 use Rattle.output.specs.declared.Stream.{Stream}
 use Rattle.output.specs.Out.{Out, nothing, then, CameOut}
 use Rattle.output.specs.Stream.{shown, is_over, Room, fits, Called, streamStarted, closeDue, closed, answer_of}
-use Rattle.output.specs.Promises.{Awaits, nothing-early, wholeOut, Stands, no-dialect, going, refused, declined, accepted}
+use Rattle.output.specs.Promises.{Awaits, nothing-early, wholeOut, Stands, no_dialect, going, refused, declined, accepted}
 use Rattle.output.proofs.Step.{Standing, not-shown, then-nothing}
 use Rattle.output.proofs.Close.{closing-out}
 use Rattle.output.proofs.Calls.{going-over, standing-out, started-standing, Inv, inv-going, inv-over, awaits-none}
 
 -- what the check says of the bytes taken
-pub check-answers : (b sum : ℕ) (f : Bytes) (c : Check) → c ≡ fedAll (started b sum) f → Answers b sum f (asked c)
+pub check-answers : (b sum : ℕ) (f : Bytes) (c : Check) → c ≡ fed_all (started b sum) f → Answers b sum f (asked c)
 check-answers b sum f c p =
-    subst (λ (c : Check). Answers b sum f (asked c)) (sym p) (stands-answers b sum f (fedAll (started b sum) f) (fed-stands b sum [] f (started b sum) (started-stands b sum)))
+    subst (λ (c : Check). Answers b sum f (asked c)) (sym p) (stands-answers b sum f (fed_all (started b sum) f) (fed-stands b sum [] f (started b sum) (started-stands b sum)))
 
 -- a file that is refused has no last end
 none-due : (c : Check) (a : Answer) → eqb a.refusal 0 ≡ false → closeDue c a ≡ nothing
@@ -46,7 +46,7 @@ none-due c a e = rw e
 abbrev pub Left : ℕ → ℕ → Bytes → Out → Called → Type 0
 Left b sum f o u = Inv b sum f [] (then o u.out) u.state
 
-module _ (b sum : ℕ) (f : Bytes) (o : Out) (s : Stream) (p : s.check ≡ fedAll (started b sum) f) (q : shown s.check ≡ false) (c₀ : s.closed ≡ 0)
+module _ (b sum : ℕ) (f : Bytes) (o : Out) (s : Stream) (p : s.check ≡ fed_all (started b sum) f) (q : shown s.check ≡ false) (c₀ : s.closed ≡ 0)
     (w : Standing b sum f s.check s.early o) (a : Awaits s.check s.early [])
   where
     abbrev done : Stream
@@ -68,7 +68,7 @@ module _ (b sum : ℕ) (f : Bytes) (o : Out) (s : Stream) (p : s.check ≡ fedAl
     answered : (x : Answer) → asked s.check ≡ x → Answers b sum f x → (g : Bytes) → Stands b sum f g (then o (closeDue s.check x)) done
     answered x e (Answers.refused {n} {p = z} h) g =
         let m = refused-number h in
-        let i : closeDue s.check (refusedBy n z) ≡ nothing = none-due s.check (refusedBy n z) (ne_eqb n 0 (λ y. omega arith)) in
+        let i : closeDue s.check (refused_by n z) ≡ nothing = none-due s.check (refused_by n z) (ne_eqb n 0 (λ y. omega arith)) in
         declined p q refl h (subst (CameOut (dialect b sum) f 0) (sym (ap (then o) i ∙ then-nothing o)) (standing-out none-early))
     answered x e (Answers.accepted {t} {r} h) g = accepted p refl h (closing-out t r none-early q h.reading e)
 
@@ -79,29 +79,29 @@ close-inv {b} {sum} {f} {o} {s} r (inv-going p q c w a) =
     rw (going-over s q c) (room-or-not b sum f o s p q c w a r (closeDue s.check (asked s.check)) _ (answered b sum f o s p q c w a (asked s.check) refl (check-answers b sum f s.check p)))
 
 -- the start
-shown-start : (b sum : ℕ) → isValid b sum ≡ true → shown (started b sum) ≡ false
+shown-start : (b sum : ℕ) → is_valid b sum ≡ true → shown (started b sum) ≡ false
 unfolding shown
 shown-start b sum e = rw (started-is b sum, e)
 
-pub over-start : (b sum : ℕ) → isValid b sum ≡ false → is_over (streamStarted b sum) ≡ true
+pub over-start : (b sum : ℕ) → is_valid b sum ≡ false → is_over (streamStarted b sum) ≡ true
 unfolding shown streamStarted
 over-start b sum e = rw (started-is b sum, e)
 
 pub start-inv : (b sum : ℕ) (g : Bytes) → Inv b sum [] g nothing (streamStarted b sum)
 unfolding streamStarted
-start-inv b sum g = by (isValid b sum) refl
+start-inv b sum g = by (is_valid b sum) refl
   where
-    by : (x : Bool) → isValid b sum ≡ x → Inv b sum [] g nothing (streamStarted b sum)
+    by : (x : Bool) → is_valid b sum ≡ x → Inv b sum [] g nothing (streamStarted b sum)
     by true e = inv-going (sym (fed-none (started b sum))) (shown-start b sum e) refl (started-standing b sum) nothing-early
-    by false e = inv-over (over-start b sum e) (λ g. no-dialect (λ v. true≢false (sym (valid-yes b sum v) ∙ e)) refl refl)
+    by false e = inv-over (over-start b sum e) (λ g. no_dialect (λ v. true≢false (sym (valid-yes b sum v) ∙ e)) refl refl)
 
 -- a refusal that is shown is the answer
 pub shown-refused : (c : Check) → shown c ≡ true → (asked c).refusal ≡ 0 → ⊥
 shown-refused c h = asks-refused c (λ p q r. true≢false (sym h ∙ not-shown c p q r))
 
 -- the state's check is that of the bytes taken
-pub stands-check : {b sum : ℕ} {f g : Bytes} {o : Out} {s : Stream} → Stands b sum f g o s → s.check ≡ fedAll (started b sum) f
-stands-check {b} {sum} (no-dialect v p q) = p ∙ sym (fed-none (started b sum))
+pub stands-check : {b sum : ℕ} {f g : Bytes} {o : Out} {s : Stream} → Stands b sum f g o s → s.check ≡ fed_all (started b sum) f
+stands-check {b} {sum} (no_dialect v p q) = p ∙ sym (fed-none (started b sum))
 stands-check (going p q c o a) = p
 stands-check (refused e x i j p q o) = p
 stands-check (declined p q c h o) = p
@@ -119,7 +119,7 @@ answer-is-check {b} {sum} {f} {s} h e = rw e (check-answers b sum f s.check (sta
 
 table-out :
     {b sum r : ℕ} {f g : Bytes} {o : Out} {s : Stream} {t : Table} → Stands b sum f g o s → Accepted b sum f t r → is_over s ≡ true → (answer_of s).refusal ≡ 0 → o ≡ wholeOut t
-table-out (no-dialect v p q) a u y = absurd (v a.valid)
+table-out (no_dialect v p q) a u y = absurd (v a.valid)
 table-out {s} (going p q c i w) a u y = absurd (true≢false (sym u ∙ going-over s q c))
 table-out {s} (refused i j k l p q w) a u y = absurd (shown-refused s.check q (ap (λ (x : Answer). x.refusal) (asked_is s u) ∙ y))
 table-out (declined p q c i w) a u y = absurd (never_both a i)
@@ -128,7 +128,7 @@ table-out (accepted p c i w) a u y = w ∙ ap wholeOut (one-accepted i a).0
 -- Accepted: what came out, joined, is the whole reader's table, and the answer is the reader's.
 pub joined-is-table :
     {b sum r : ℕ} {f g : Bytes} {o : Out} {s : Stream} {t : Table} → Stands b sum f g o s → is_over s ≡ true → Accepted b sum f t r
-    → (o ≡ wholeOut t) × (answer_of s ≡ acceptedAs t r)
+    → (o ≡ wholeOut t) × (answer_of s ≡ accepted_as t r)
 joined-is-table h e a =
     let q = one_answer (answer-is-check h e) (Answers.accepted a) in
     (table-out h a e (ap (λ (x : Answer). x.refusal) q), q)

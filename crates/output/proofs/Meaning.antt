@@ -8,10 +8,10 @@ use lib.Dec.{eqb}
 use borrow.Author.Tests.{eqb-true, eqb-false}
 use Rattle.format.specs.Table.{Bytes}
 use Rattle.format.specs.Dialect.{dialect, Valid}
-use Rattle.steps.specs.Model.{isValid}
+use Rattle.steps.specs.Model.{is_valid}
 use Rattle.state.specs.declared.Check.{Check}
 use Rattle.places.specs.Counters.{moved}
-use Rattle.state.specs.Check.{started, fed, fedAll}
+use Rattle.state.specs.Check.{started, fed, fed_all}
 use Rattle.state.proofs.Jumps.{refused-step}
 use Rattle.state.proofs.Moves.{placed-refuses, fed-none, fed-cons, fed-byte, fed-keeps}
 use Rattle.state.proofs.Parts.{started-is}
@@ -21,7 +21,7 @@ use Rattle.output.specs.Out.{Out, nothing, out_of, CameOut, came-out}
 use Rattle.format.specs.SoFar.{so_far}
 use Rattle.output.specs.Stream.{shown, is_over, Called, streamStarted, streamed, closed}
 use Rattle.output.specs.declared.Streamed.{Streamed}
-use Rattle.output.specs.Promises.{Into, roomOf, Stands, no-dialect, going, refused, declined, accepted, Started, Fed, Closed}
+use Rattle.output.specs.Promises.{Into, roomOf, Stands, no_dialect, going, refused, declined, accepted, Started, Fed, Closed}
 use Rattle.steps.proofs.Forms.{at-begun}
 use Rattle.output.proofs.Step.{Standing, standing, clear, stand-byte, not-shown}
 use Rattle.steps.proofs.One.{one-so-far}
@@ -36,7 +36,7 @@ pub shown-before : (c : Check) (b : ℕ) → shown (fed c b) ≡ false → shown
 shown-before c b h =
     let w = clear (fed c b) h in
     let k = fed-keeps c b in
-    let v : isValid c.delimiter c.leniencies ≡ true = cc (w.valid, k.delimiter, k.leniencies) in
+    let v : is_valid c.delimiter c.leniencies ≡ true = cc (w.valid, k.delimiter, k.leniencies) in
     let y = fed-byte c b in
     let z = w.short in
     not-shown c v (omega arith) (by (eqb c.refusal 0) refl w.refusal)
@@ -45,17 +45,17 @@ shown-before c b h =
     by true e p = eqb-true c.refusal 0 e
     by false e p = sym (fed-refusal c b (eqb-false c.refusal 0 e)) ∙ p
 
-pub shown-first : (f : Bytes) (c : Check) → shown (fedAll c f) ≡ false → shown c ≡ false
+pub shown-first : (f : Bytes) (c : Check) → shown (fed_all c f) ≡ false → shown c ≡ false
 shown-first [] c h = rw (fed-none c) at h
 shown-first (b ∷ f) c h = shown-before c b (shown-first f (fed c b) (rw (fed-cons c b f) at h))
 
 -- whatever no refusal is shown for stands
-stand-all : (x sum : ℕ) (f e : Bytes) (c : Check) (o : Out) → Standing x sum e c 0 o → shown (fedAll c f) ≡ false → (p : Out) × Standing x sum (e ++ f) (fedAll c f) 0 p
+stand-all : (x sum : ℕ) (f e : Bytes) (c : Check) (o : Out) → Standing x sum e c 0 o → shown (fed_all c f) ≡ false → (p : Out) × Standing x sum (e ++ f) (fed_all c f) 0 p
 stand-all x sum [] e c o w h = (o, rw (fed-none c) (subst (λ (l : Bytes). Standing x sum l c 0 o) (sym (append-nil e)) w))
 stand-all x sum (b ∷ f) e c o w h =
     let h' = rw (fed-cons c b f) at h in
     let z = stand-all x sum f (e ++ (b ∷ [])) (fed c b) _ (stand-byte b w (shown-first f (fed c b) h') (λ i. refl)) h' in
-    rw (fed-cons c b f) (z.0, subst (λ (l : Bytes). Standing x sum l (fedAll (fed c b) f) 0 z.0) (append_assoc e (b ∷ []) f) z.1)
+    rw (fed-cons c b f) (z.0, subst (λ (l : Bytes). Standing x sum l (fed_all (fed c b) f) 0 z.0) (append_assoc e (b ∷ []) f) z.1)
 
 standing-is : {x sum m : ℕ} {f : Bytes} {c : Check} {o p : Out} → Standing x sum f c 0 o → CameOut (dialect x sum) f m p → Standing x sum f c m p
 standing-is {x} {sum} {m} {p} (standing {k} {n} w l q) (came-out s i j) =
@@ -64,7 +64,7 @@ standing-is {x} {sum} {m} {p} (standing {k} {n} w l q) (came-out s i j) =
     standing w (omega arith) (j ∙ λ i. out_of (z.0 i) (z.1 i) (z.2 i) m)
 
 pub came-standing :
-    {x sum m : ℕ} {f : Bytes} {c : Check} {o : Out} → c ≡ fedAll (started x sum) f → shown c ≡ false → CameOut (dialect x sum) f m o → Standing x sum f c m o
+    {x sum m : ℕ} {f : Bytes} {c : Check} {o : Out} → c ≡ fed_all (started x sum) f → shown c ≡ false → CameOut (dialect x sum) f m o → Standing x sum f c m o
 came-standing {x} {sum} {m} {f} {c} {o} p q h =
     let z = stand-all x sum f [] (started x sum) nothing (started-standing x sum) (subst (λ (c : Check). shown c ≡ false) p q) in
     subst (λ (c : Check). Standing x sum f c m o) (sym p) (standing-is z.1 h)
@@ -72,7 +72,7 @@ came-standing {x} {sum} {m} {f} {c} {o} p q h =
 pub closed-over : (s : Stream) → s.closed ≡ 1 → is_over s ≡ true
 closed-over s c = rw c (or-true (shown s.check))
 
-shown-bad : (b sum : ℕ) (s : Stream) → isValid b sum ≡ false → s.check ≡ started b sum → is_over s ≡ true
+shown-bad : (b sum : ℕ) (s : Stream) → is_valid b sum ≡ false → s.check ≡ started b sum → is_over s ≡ true
 unfolding shown
 shown-bad b sum s e p = rw (p, started-is b sum, e)
 
@@ -80,7 +80,7 @@ pub invalid-over : (b sum : ℕ) (s : Stream) → (Valid b sum → ⊥) → s.ch
 invalid-over b sum s v p = shown-bad b sum s (no-valid b sum v) p
 
 pub stands-inv : {b sum : ℕ} {f g : Bytes} {o : Out} {s : Stream} → Stands b sum f g o s → Inv b sum f g o s
-stands-inv {b} {sum} {s} (no-dialect v p q) = inv-over (invalid-over b sum s v p) (λ g. no-dialect v p q)
+stands-inv {b} {sum} {s} (no_dialect v p q) = inv-over (invalid-over b sum s v p) (λ g. no_dialect v p q)
 stands-inv (going p q c o a) = inv-going p q c (came-standing p q o) a
 stands-inv {s} (refused e x i j p q o) = inv-over (let z : is_over s ≡ true = rw q in z) (λ g. refused e x i j p q o)
 stands-inv {s} (declined p q c h o) = inv-over (closed-over s c) (λ g. declined p q c h o)
@@ -115,14 +115,14 @@ into_one p q = (
   λ i. record {
     state = (p.state ∙ sym q.state) i;
     taken = (p.taken ∙ sym q.taken) i;
-    text = (p.text-count ∙ sym q.text-count) i;
+    text = (p.text_count ∙ sym q.text_count) i;
     ends = (p.ends-count ∙ sym q.ends-count) i;
     rows = (p.rows-count ∙ sym q.rows-count) i;
     short = (p.short ∙ sym q.short) i;
     closed = (p.closed ∙ sym q.closed) i;
     answer = (p.answer ∙ sym q.answer) i;
   },
-  p.text-is ∙ sym q.text-is,
+  p.text_is ∙ sym q.text_is,
   p.ends_is ∙ sym q.ends_is,
   p.rows_is ∙ sym q.rows_is,
 )

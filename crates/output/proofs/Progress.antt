@@ -10,7 +10,7 @@ use lib.ListN.{length, replicate, length-append, length-replicate}
 use borrow.Author.Tests.{leb-false, le-leb}
 use Rattle.format.specs.declared.Answer.{Answer}
 use Rattle.format.specs.Table.{Bytes}
-use Rattle.format.specs.House.{contentLimit}
+use Rattle.format.specs.House.{content_limit}
 use Rattle.format.proofs.Classes.{decide}
 use Rattle.state.specs.declared.Check.{Check}
 use Rattle.state.specs.Check.{fed}
@@ -38,7 +38,7 @@ pub blanks-held : (m : ℕ) (c e : Check) (k : ℕ) → 1 ≤ k → k ≤ blanks
 unfolding blanksDue
 blanks-held m c e k i = by (putsText c e)
   where
-    by : (y : Bool) → k ≤ cond y (min (c.field.held - m) (contentLimit - (c.field.content + m))) 0 → m + k ≤ c.field.held
+    by : (y : Bool) → k ≤ cond y (min (c.field.held - m) (content_limit - (c.field.content + m))) 0 → m + k ≤ c.field.held
     by true h = omega arith
     by false h = absurd (omega arith)
 
@@ -195,9 +195,9 @@ module _ (s : Stream) (r : Room) where
       Stays : Called → Type 0
       Stays c = (c.short ≡ 0 → ⊥) → (c.out ≡ nothing) × (c.state ≡ s)
 
-  pub close-ends : (closed s r).short ≡ 0 → is_over (closed s r).state ≡ true
+  pub close_ends : (closed s r).short ≡ 0 → is_over (closed s r).state ≡ true
   unfolding closed
-  close-ends =
+  close_ends =
       decide Ends (is_over s) (λ h n. h)
       (λ h. let o : Out = closeDue s.check (asked s.check) in
       decide Ends (fits o r) (λ i n. or-true (shown s.check)) (λ i n. let l = lacks o r i in absurd (omega arith)))
@@ -213,6 +213,6 @@ module _ (s : Stream) (r : Room) where
       let v = one-most z a.totals.fields.0 in
       rw (le-leb 0 r.text (omega arith), le-leb (length (when z a.totals.text)) r.ends (omega arith), le-leb (length (when z a.totals.fields.0)) r.rows (omega arith))
 
-  pub close-room : 1 ≤ r.ends → 1 ≤ r.rows → (closed s r).short ≡ 0
+  pub close_room : 1 ≤ r.ends → 1 ≤ r.rows → (closed s r).short ≡ 0
   unfolding closed
-  close-room x y = rw (due-one s.check (asked s.check) x y) (decide (λ (c : Called). c.short ≡ 0) (is_over s) (λ h. refl) (λ h. refl))
+  close_room x y = rw (due-one s.check (asked s.check) x y) (decide (λ (c : Called). c.short ≡ 0) (is_over s) (λ h. refl) (λ h. refl))

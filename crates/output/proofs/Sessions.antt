@@ -12,17 +12,17 @@ use borrow.Author.Tests.{eqb-true, eqb-false, le-leb}
 use Rattle.format.specs.declared.Answer.{Answer}
 use Rattle.format.specs.Table.{Bytes, Content, Table, Every}
 use Rattle.format.specs.Dialect.{Valid}
-use Rattle.format.specs.House.{EndsInBreak, contentLimit, Fits}
+use Rattle.format.specs.House.{EndsInBreak, content_limit, Fits}
 use Rattle.format.specs.Filling.{over}
 use Rattle.format.specs.Reading.{Accepted, Refused}
-use Rattle.format.specs.Answer.{acceptedAs, refusedBy}
+use Rattle.format.specs.Answer.{accepted_as, refused_by}
 use Rattle.format.specs.Place.{nowhere}
 use Rattle.format.proofs.Memory.{lengths_none}
 use Rattle.format.proofs.Numbers.{refused-number}
-use Rattle.steps.specs.Model.{isValid}
+use Rattle.steps.specs.Model.{is_valid}
 use Rattle.steps.proofs.Verdicts.{yes-valid}
 use Rattle.state.specs.declared.Check.{Check}
-use Rattle.state.specs.Check.{started, fedAll}
+use Rattle.state.specs.Check.{started, fed_all}
 use Rattle.state.proofs.Moves.{fed-all-keeps, start-bytes}
 use Rattle.pieces.specs.Asked.{asked}
 use Rattle.pieces.specs.Answers.{Answers}
@@ -31,7 +31,7 @@ use Rattle.output.specs.declared.Stream.{Stream}
 use Rattle.output.specs.declared.Streamed.{Streamed}
 use Rattle.output.specs.Out.{Out, nothing, out_of, Contents}
 use Rattle.output.specs.Stream.{shown, is_over, Room, fits, Called, closeDue, closed, answer_of, closedBy}
-use Rattle.output.specs.Promises.{Awaits, nothing-early, content-next, wholeOut, Stands, no-dialect, going, refused, declined, accepted, Into}
+use Rattle.output.specs.Promises.{Awaits, nothing-early, content-next, wholeOut, Stands, no_dialect, going, refused, declined, accepted, Into}
 use Rattle.output.proofs.Step.{Standing, standing, clear}
 use Rattle.output.proofs.Calls.{Inv, inv-going, inv-over, going-over, awaits-none}
 use Rattle.output.proofs.Close.{reading-fits, none_left}
@@ -45,7 +45,7 @@ module _ (s : Stream) where
   unfolding answer_of
   refused_over h = by (is_over s) (asked s.check) h
     where
-      by : (y : Bool) (a : Answer) → ((cond y a (refusedBy 0 nowhere)).refusal ≡ 0 → ⊥) → y ≡ true
+      by : (y : Bool) (a : Answer) → ((cond y a (refused_by 0 nowhere)).refusal ≡ 0 → ⊥) → y ≡ true
       by true a h = refl
       by false a h = absurd (h refl)
 
@@ -81,7 +81,7 @@ pub filled :
     → record { text = take r.text text'; ends = take r.ends ends'; rows = take r.rows rows' } ≡ c.out
 filled {c} {text} {ends = ends} {rows} w =
     λ i. record {
-      text = front c.out.text text w.text-count w.text-is i;
+      text = front c.out.text text w.text_count w.text_is i;
       ends = front c.out.ends ends w.ends-count w.ends_is i;
       rows = front c.out.rows rows w.rows-count w.rows_is i;
     }
@@ -98,7 +98,7 @@ answers-accepted (Answers.refused h) z = let k = refused-number h in absurd (ome
 -- An accepted close: what is out is the table, and the answer is the reader's.
 pub stands-closed :
     {b sum : ℕ} {f g : Bytes} {o : Out} {s : Stream} → Stands b sum f g o s → closedBy s ≡ 1
-    → (t : Table) × (r : ℕ) × Accepted b sum f t r × (answer_of s ≡ acceptedAs t r) × (o ≡ wholeOut t)
+    → (t : Table) × (r : ℕ) × Accepted b sum f t r × (answer_of s ≡ accepted_as t r) × (o ≡ wholeOut t)
 stands-closed {s = s} h k =
     let e = closed-over s k in
     let (t, r, a) = answers-accepted (answer-is-check h e.0) e.1 in
@@ -106,16 +106,16 @@ stands-closed {s = s} h k =
     (t, r, a, j.1, j.0)
 
 -- a state that shows no refusal is of a dialect
-shown-valid : (b sum : ℕ) (f : Bytes) {c : Check} → c ≡ fedAll (started b sum) f → shown c ≡ false → Valid b sum
+shown-valid : (b sum : ℕ) (f : Bytes) {c : Check} → c ≡ fed_all (started b sum) f → shown c ≡ false → Valid b sum
 shown-valid b sum f {c} p q =
     let k = fed-all-keeps f (started b sum) in
     let z = start-bytes b sum in
     let x : c.delimiter ≡ b = ap (λ (e : Check). e.delimiter) p ∙ k.delimiter ∙ z.0 in
     let y : c.leniencies ≡ sum = ap (λ (e : Check). e.leniencies) p ∙ k.leniencies ∙ z.1 in
-    yes-valid b sum (subst (λ (i : ℕ). isValid i sum ≡ true) x (subst (λ (j : ℕ). isValid c.delimiter j ≡ true) y (clear c q).valid))
+    yes-valid b sum (subst (λ (i : ℕ). is_valid i sum ≡ true) x (subst (λ (j : ℕ). is_valid c.delimiter j ≡ true) y (clear c q).valid))
 
 pub stands-invalid : {b sum : ℕ} {f g : Bytes} {o : Out} {s : Stream} → Stands b sum f g o s → (Valid b sum → ⊥) → (f ≡ []) × (o ≡ nothing)
-stands-invalid (no-dialect v p q) n = (refl, q)
+stands-invalid (no_dialect v p q) n = (refl, q)
 stands-invalid {b} {sum} {f} (going p q c o a) n = absurd (n (shown-valid b sum f p q))
 stands-invalid {b} {sum} (refused e x i j p q o) n = absurd (n (shown-valid b sum e refl j))
 stands-invalid {b} {sum} {f} (declined p q c h o) n = absurd (n (shown-valid b sum f p q))
@@ -125,18 +125,18 @@ stands-invalid (accepted p c h o) n = absurd (n h.valid)
 out-contents : (t : Table) (cs : List Content) (c : Content) (m : ℕ) → Every Fits (flatten t ++ cs) → Contents (out_of t cs c m)
 unfolding out_of
 out-contents t cs c m f =
-    record { whole = flatten t ++ cs; last = take contentLimit (c ++ replicate m 0x20); text-is = refl; ends-are = refl; fit = f; cut = omega (arith, length-take contentLimit (c ++ replicate m 0x20)) }
+    record { whole = flatten t ++ cs; last = take content_limit (c ++ replicate m 0x20); text_is = refl; ends_are = refl; fit = f; cut = omega (arith, length-take content_limit (c ++ replicate m 0x20)) }
 
 standing-contents : {x sum m : ℕ} {f : Bytes} {e : Check} {o : Out} → Standing x sum f e m o → Contents o
 standing-contents {m = m} (standing {t = t} {cs} {c} w l q) = subst Contents (sym q) (out-contents t cs c m w.fits)
 
 table-contents : (t : Table) → Every Fits (flatten t) → Contents (wholeOut t)
 table-contents t f =
-    record { whole = flatten t; last = []; text-is = sym (append-nil (flatten (flatten t))); ends-are = refl; fit = f; cut = omega arith }
+    record { whole = flatten t; last = []; text_is = sym (append-nil (flatten (flatten t))); ends_are = refl; fit = f; cut = omega arith }
 
 pub stands-contents : {b sum : ℕ} {f g : Bytes} {o : Out} {s : Stream} → Stands b sum f g o s → Contents o
 unfolding flatten
-stands-contents (no-dialect v p q) = subst Contents (sym q) (record { whole = []; last = []; text-is = refl; ends-are = sym (lengths_none ℕ 0); fit = tt; cut = omega arith })
+stands-contents (no_dialect v p q) = subst Contents (sym q) (record { whole = []; last = []; text_is = refl; ends_are = sym (lengths_none ℕ 0); fit = tt; cut = omega arith })
 stands-contents (going p q c o a) = standing-contents (came-standing p q o)
 stands-contents (refused e x i j p q o) = standing-contents (came-standing refl j o)
 stands-contents (declined p q c h o) = standing-contents (came-standing p q o)
@@ -145,7 +145,7 @@ stands-contents (accepted {t = t} p c h o) = subst Contents (sym o) (table-conte
 -- Blanks that are out early await the byte that comes next, whatever comes behind it.
 pub stands-awaits :
     {b sum x : ℕ} {f g h : Bytes} {o : Out} {s : Stream} → Stands b sum f (x ∷ g) o s → (is_over s ≡ true) ⊎ Awaits s.check s.early (x ∷ h)
-stands-awaits {b} {sum} {s = s} (no-dialect v p q) = inl (invalid-over b sum s v p)
+stands-awaits {b} {sum} {s = s} (no_dialect v p q) = inl (invalid-over b sum s v p)
 stands-awaits (going p q c o a) = inr (next a)
   where
     next : {c : Check} {m x : ℕ} {g h : Bytes} → Awaits c m (x ∷ g) → Awaits c m (x ∷ h)
@@ -160,14 +160,14 @@ none-due : (s : Stream) (r : Room) (x : Answer) → asked s.check ≡ x → clos
 unfolding closed fits
 none-due s r x i j k = rw (k, i, j, le-leb 0 r.text (omega arith), le-leb 0 r.ends (omega arith), le-leb 0 r.rows (omega arith)) (refl, refl)
 
-pub close-needs-none :
+pub close_needs_none :
     {b sum n : ℕ} {f : Bytes} {o : Out} {s : Stream} {t : Table} → Stands b sum f [] o s → Accepted b sum f t n → (f ≡ []) ⊎ EndsInBreak f → (r : Room)
     → ((closed s r).short ≡ 0) × ((closed s r).out ≡ nothing)
-close-needs-none {b} {sum} {n} {f} {o} {s} {t} h a e r = by (stands-inv h)
+close_needs_none {b} {sum} {n} {f} {o} {s} {t} h a e r = by (stands-inv h)
   where
     by : Inv b sum f [] o s → ((closed s r).short ≡ 0) × ((closed s r).out ≡ nothing)
     by (inv-over i k) = rw (is-over s r i) (refl, refl)
     by (inv-going p q c w x) =
         let i = one_answer (check-answers b sum f s.check p) (Answers.accepted a) in
         let w₀ = subst (λ (m : ℕ). Standing b sum f s.check m o) (awaits-none x refl) w in
-        none-due s r (acceptedAs t n) i (none_left t n w₀ q a.valid a.reading i e) (going-over s q c)
+        none-due s r (accepted_as t n) i (none_left t n w₀ q a.valid a.reading i e) (going-over s q c)

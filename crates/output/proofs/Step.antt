@@ -9,24 +9,24 @@ use lib.ListN.{length, take, replicate, length-append, length-replicate}
 use lib.Seq.{take_all}
 use borrow.Author.Tests.{leb-true, le-leb, lt-leb, eqb-true, eqb-false}
 use Rattle.format.specs.Table.{Bytes, Content, Table, Every}
-use Rattle.format.specs.Dialect.{lf, ragged, names, Dialect, dialect, Class, text, blank, delimiter, quote, CR, LF, forbidden, classOf}
+use Rattle.format.specs.Dialect.{lf, ragged, names, Dialect, dialect, Class, text, blank, delimiter, quote, CR, LF, forbidden, class_of}
 use Rattle.format.specs.Grammar.{Field, Break}
-use Rattle.format.specs.House.{width_of, EqualRows, contentLimit, fileLimit, Fits}
+use Rattle.format.specs.House.{width_of, EqualRows, content_limit, file_limit, Fits}
 use Rattle.format.specs.Refusal.{Fields, Records}
 use Rattle.format.specs.Memory.{lengths}
-use Rattle.steps.specs.Steps.{Form, start, lead, bare, quoted, shut, tail, cr, nothing, put, hold, drop, field_end, record-end, Act, refuse, go, next, carry, step_of}
-use Rattle.steps.specs.Model.{isValid}
-use Rattle.steps.specs.Numbers.{formNumber}
+use Rattle.steps.specs.Steps.{Form, start, lead, bare, quoted, shut, tail, cr, nothing, put, hold, drop, field_end, record_end, Act, refuse, go, next, carry, step_of}
+use Rattle.steps.specs.Model.{is_valid}
+use Rattle.steps.specs.Numbers.{form_number}
 use Rattle.steps.proofs.Rules.{form-back}
 use Rattle.steps.proofs.Acts.{step-entry}
 use Rattle.state.specs.declared.Check.{Check}
 use Rattle.places.specs.Counters.{plus}
 use Rattle.state.specs.Check.{evenly, fed}
 use Rattle.state.proofs.Moves.{fed-keeps, fed-byte}
-use Rattle.state.proofs.Byte.{Within, Over, FieldEnds, RecordEnds, Does, actOf, fed-does}
+use Rattle.state.proofs.Byte.{Within, Over, FieldEnds, RecordEnds, Does, act_of, fed-does}
 use Rattle.output.specs.Out.{Out, then, out_of}
 use Rattle.output.specs.Stream.{shown, putsText, endsField, byteLeft, when, blanksDue, due}
-use Rattle.steps.proofs.Forms.{At, at-start, at-lead, at_bare, at-quoted, at-shut, at_tail, at-cr, heldIn, Makes, makes, fault-number}
+use Rattle.steps.proofs.Forms.{At, at_start, at_lead, at_bare, at_quoted, at_shut, at_tail, at_cr, held_in, Makes, makes, fault-number}
 use Rattle.format.proofs.Even.{width-more, even-more}
 use Rattle.format.proofs.Every.{every_one}
 use Rattle.format.proofs.Grow.{fields-grow, records-grow, fields-more, records-more, fields-record}
@@ -44,8 +44,8 @@ pub record Known (x sum : ℕ) (f : Bytes) (e : Check) (k : Form) (t : Table) (c
   pub leniencies : e.leniencies ≡ sum
   pub refusal : e.refusal ≡ 0
   pub bytes : e.here.byte.0 ≡ length f
-  pub limit : length f ≤ fileLimit
-  pub form : e.form ≡ formNumber k
+  pub limit : length f ≤ file_limit
+  pub form : e.form ≡ form_number k
   pub begun : Fresh e.begun g
   pub records : Records (dialect x sum) f t g
   pub fields : Fields (dialect x sum) g cs h
@@ -65,29 +65,29 @@ pub record Known (x sum : ℕ) (f : Bytes) (e : Check) (k : Form) (t : Table) (c
 -- and what is out by then
 pub data Standing (x sum : ℕ) (f : Bytes) (e : Check) (m : ℕ) (o : Out) : Type 0 where
   standing : {k : Form} {t : Table} {cs : List Content} {c : Content} {n : ℕ} {g h : Bytes}
-      → Known x sum f e k t cs c n g h → m ≤ heldIn k n → o ≡ out_of t cs c m → Standing x sum f e m o
+      → Known x sum f e k t cs c n g h → m ≤ held_in k n → o ≡ out_of t cs c m → Standing x sum f e m o
 
 -- no refusal is shown
 pub record Clear (e : Check) : Type 0 where
-  pub valid : isValid e.delimiter e.leniencies ≡ true
-  pub short : e.here.byte.0 ≤ fileLimit
+  pub valid : is_valid e.delimiter e.leniencies ≡ true
+  pub short : e.here.byte.0 ≤ file_limit
   pub refusal : e.refusal ≡ 0
 
 pub clear : (e : Check) → shown e ≡ false → Clear e
 unfolding shown
-clear e = go (isValid e.delimiter e.leniencies) refl (leb e.here.byte.0 fileLimit) refl (eqb e.refusal 0) refl
+clear e = go (is_valid e.delimiter e.leniencies) refl (leb e.here.byte.0 file_limit) refl (eqb e.refusal 0) refl
   where
     go :
-        (x : Bool) → isValid e.delimiter e.leniencies ≡ x → (y : Bool) → leb e.here.byte.0 fileLimit ≡ y → (z : Bool) → eqb e.refusal 0 ≡ z
+        (x : Bool) → is_valid e.delimiter e.leniencies ≡ x → (y : Bool) → leb e.here.byte.0 file_limit ≡ y → (z : Bool) → eqb e.refusal 0 ≡ z
         → (not x || (not y || not z)) ≡ false → Clear e
-    go true p true q true r h = record { valid = p; short = leb-true e.here.byte.0 fileLimit q; refusal = eqb-true e.refusal 0 r }
+    go true p true q true r h = record { valid = p; short = leb-true e.here.byte.0 file_limit q; refusal = eqb-true e.refusal 0 r }
     go true p true q false r h = let z : ◌≡◌ {A = Bool} true false = h in let i : ◌≡◌ {A = ℕ} 0 1 = cc in absurd (omega arith)
     go true p false q z r h = let i : ◌≡◌ {A = ℕ} 0 1 = cc in absurd (omega arith)
     go false p y q z r h = let i : ◌≡◌ {A = ℕ} 0 1 = cc in absurd (omega arith)
 
-pub not-shown : (c : Check) → isValid c.delimiter c.leniencies ≡ true → c.here.byte.0 ≤ fileLimit → c.refusal ≡ 0 → shown c ≡ false
+pub not-shown : (c : Check) → is_valid c.delimiter c.leniencies ≡ true → c.here.byte.0 ≤ file_limit → c.refusal ≡ 0 → shown c ≡ false
 unfolding shown
-not-shown c p q r = let q' = le-leb c.here.byte.0 fileLimit q in rw (p, q', r)
+not-shown c p q r = let q' = le-leb c.here.byte.0 file_limit q in rw (p, q', r)
 
 snoc-length : (s : Bytes) (b : ℕ) → length (s ++ (b ∷ [])) ≡ length s + 1
 snoc-length s b = length-append s (b ∷ [])
@@ -99,7 +99,7 @@ fresh-more (y ∷ g) b = some
 leb-self : (n : ℕ) → leb n n ≡ true
 leb-self n = le-leb n n (omega arith)
 
-held-le : (k : Form) (n : ℕ) → heldIn k n ≤ n
+held-le : (k : Form) (n : ℕ) → held_in k n ≤ n
 held-le start n = omega arith
 held-le lead n = omega arith
 held-le bare n = omega arith
@@ -113,14 +113,14 @@ grown : (h : Bytes) (b : ℕ) → h ++ (b ∷ []) ≡ [] → ⊥
 grown [] b e = let z : ◌≡◌ {A = ℕ} 0 1 = cc in omega arith
 grown (y ∷ h) b e = let z : ◌≡◌ {A = ℕ} 0 1 = cc in omega arith
 
-not_start : {d : Dialect} {k : Form} {g : Bytes} {c : Content} {n : ℕ} → At d k g c n → (g ≡ [] → ⊥) → eqb (formNumber k) 0 ≡ false
-not_start at-start u = absurd (u refl)
-not_start (at-lead x) u = refl
+not_start : {d : Dialect} {k : Form} {g : Bytes} {c : Content} {n : ℕ} → At d k g c n → (g ≡ [] → ⊥) → eqb (form_number k) 0 ≡ false
+not_start at_start u = absurd (u refl)
+not_start (at_lead x) u = refl
 not_start (at_bare x k p y e) u = refl
-not_start (at-quoted x k) u = refl
-not_start (at-shut x k) u = refl
+not_start (at_quoted x k) u = refl
+not_start (at_shut x k) u = refl
 not_start (at_tail x k i y) u = refl
-not_start (at-cr p e) u = refl
+not_start (at_cr p e) u = refl
 
 pub then-nothing : (o : Out) → then o (record { text = []; ends = []; rows = [] }) ≡ o
 then-nothing o = λ i. record { text = append-nil o.text i; ends = append-nil o.ends i; rows = append-nil o.rows i }
@@ -133,7 +133,7 @@ module _ (m : ℕ) (e : Check) (b : ℕ) (r : Check) where
   pub due-text :
       putsText e r ≡ true → endsField r ≡ false
       → due m e b r
-      ≡ record { text = replicate (min (e.field.held - m) (contentLimit - (e.field.content + m))) 0x20 ++ when (byteLeft e) b; ends = []; rows = [] }
+      ≡ record { text = replicate (min (e.field.held - m) (content_limit - (e.field.content + m))) 0x20 ++ when (byteLeft e) b; ends = []; rows = [] }
   unfolding due blanksDue
   due-text p q = rw (p, q)
 
@@ -151,7 +151,7 @@ module _ (m : ℕ) (e : Check) (b : ℕ) (r : Check) where
 
 module _
     (x sum : ℕ) (f : Bytes) (e : Check) (b m : ℕ) (k : Form) (t : Table) (cs : List Content) (c : Content) (n : ℕ) (g h : Bytes)
-    (w : Known x sum f e k t cs c n g h) (less : m ≤ heldIn k n)
+    (w : Known x sum f e k t cs c n g h) (less : m ≤ held_in k n)
   where
     d : Dialect
     d = dialect x sum
@@ -168,7 +168,7 @@ module _
       leniencies : r.leniencies ≡ e.leniencies
       byte : r.here.byte.0 ≡ plus e.here.byte.0 1
 
-    room : (r : Check) → Kept r → shown r ≡ false → (r.here.byte.0 ≡ length (f ++ (b ∷ []))) × (length (f ++ (b ∷ [])) ≤ fileLimit)
+    room : (r : Check) → Kept r → shown r ≡ false → (r.here.byte.0 ≡ length (f ++ (b ∷ []))) × (length (f ++ (b ∷ [])) ≤ file_limit)
     room r i s =
         let l = snoc-length f b in
         let y = i.byte in
@@ -186,7 +186,7 @@ module _
 
     inner :
         (r : Check) (j : Form) (c' : Content) (n' : ℕ) → Kept r → Same r → shown r ≡ false
-        → r.form ≡ formNumber j → At (dialect x sum) j (h ++ (b ∷ [])) c' n' → r.field.content ≡ length c' → r.field.held ≡ n'
+        → r.form ≡ form_number j → At (dialect x sum) j (h ++ (b ∷ [])) c' n' → r.field.content ≡ length c' → r.field.held ≡ n'
         → length c' + n' ≤ length c + n + 1
         → Known x sum (f ++ (b ∷ [])) r j t cs c' n' (g ++ (b ∷ [])) (h ++ (b ∷ []))
     inner r j c' n' i v s q a p o l =
@@ -223,7 +223,7 @@ module _
 
     -- nothing comes out
     quiet :
-        (r : Check) (j : Form) (n' : ℕ) → Kept r → Same r → r.form ≡ formNumber j → At (dialect x sum) j (h ++ (b ∷ [])) c n'
+        (r : Check) (j : Form) (n' : ℕ) → Kept r → Same r → r.form ≡ form_number j → At (dialect x sum) j (h ++ (b ∷ [])) c n'
         → r.field.content ≡ e.field.content → r.field.held ≡ n' → n' ≤ n + 1 → Good r
     quiet r j n' i v q a p o l s u =
         let y₀ : leb r.field.content e.field.content ≡ true = rw p (leb-self e.field.content) in
@@ -234,16 +234,16 @@ module _
 
     -- content
     put-out :
-        then (out_of t cs c m) (record { text = replicate (min (n - m) (contentLimit - (length c + m))) 0x20 ++ cond (leb (length c + n + 1) contentLimit) (b ∷ []) []; ends = []; rows = [] })
+        then (out_of t cs c m) (record { text = replicate (min (n - m) (content_limit - (length c + m))) 0x20 ++ cond (leb (length c + n + 1) content_limit) (b ∷ []) []; ends = []; rows = [] })
         ≡ out_of t cs (c ++ (replicate n 0x20 ++ (b ∷ []))) 0
     unfolding out_of
     put-out =
         let l : m ≤ n = omega (arith, held-le k n) in
         let z = flatten (flatten t ++ cs) in
-        let y = replicate (min (n - m) (contentLimit - (length c + m))) 0x20 ++ cond (leb (length c + n + 1) contentLimit) (b ∷ []) [] in
-        let q : (z ++ take contentLimit (c ++ replicate m 0x20)) ++ y ≡ z ++ take contentLimit ((c ++ (replicate n 0x20 ++ (b ∷ []))) ++ []) =
-        append_assoc z (take contentLimit (c ++ replicate m 0x20)) y
-        ∙ ap (λ (l : List ℕ). z ++ l) (text-left contentLimit c m n 0x20 b l ∙ ap (take contentLimit) (sym (append-nil (c ++ (replicate n 0x20 ++ (b ∷ [])))))) in
+        let y = replicate (min (n - m) (content_limit - (length c + m))) 0x20 ++ cond (leb (length c + n + 1) content_limit) (b ∷ []) [] in
+        let q : (z ++ take content_limit (c ++ replicate m 0x20)) ++ y ≡ z ++ take content_limit ((c ++ (replicate n 0x20 ++ (b ∷ []))) ++ []) =
+        append_assoc z (take content_limit (c ++ replicate m 0x20)) y
+        ∙ ap (λ (l : List ℕ). z ++ l) (text-left content_limit c m n 0x20 b l ∙ ap (take content_limit) (sym (append-nil (c ++ (replicate n 0x20 ++ (b ∷ [])))))) in
         λ i. record { text = q i; ends = append-nil (lengths 0 (flatten t ++ cs)) i; rows = append-nil (lengths 0 t) i }
 
     content-length : length (c ++ (replicate n 0x20 ++ (b ∷ []))) ≡ length c + n + 1
@@ -254,7 +254,7 @@ module _
         omega arith
 
     puts :
-        (r : Check) (j : Form) → Kept r → Same r → r.form ≡ formNumber j → At (dialect x sum) j (h ++ (b ∷ [])) (c ++ (replicate n 0x20 ++ (b ∷ []))) 0
+        (r : Check) (j : Form) → Kept r → Same r → r.form ≡ form_number j → At (dialect x sum) j (h ++ (b ∷ [])) (c ++ (replicate n 0x20 ++ (b ∷ []))) 0
         → r.field.content ≡ plus (plus e.field.content e.field.held) 1 → r.field.held ≡ 0 → Good r
     puts r j i v q a p o s u =
         let l = content-length in
@@ -271,14 +271,14 @@ module _
 
     -- the end of a field
     field_out :
-        length c ≤ contentLimit
+        length c ≤ content_limit
         → then (out_of t cs c 0) (record { text = []; ends = (length (flatten (flatten t ++ cs)) + length c) ∷ []; rows = [] }) ≡ out_of t (cs ++ (c ∷ [])) [] 0
     unfolding out_of
     field_out l =
         let y = flatten t ++ cs in
         let a : y ++ (c ∷ []) ≡ flatten t ++ (cs ++ (c ∷ [])) = append_assoc (flatten t) cs (c ∷ []) in
-        let p : take contentLimit (c ++ []) ≡ c = ap (take contentLimit) (append-nil c) ∙ take_all contentLimit c l in
-        let q : (flatten y ++ take contentLimit (c ++ [])) ++ [] ≡ flatten (flatten t ++ (cs ++ (c ∷ []))) ++ [] =
+        let p : take content_limit (c ++ []) ≡ c = ap (take content_limit) (append-nil c) ∙ take_all content_limit c l in
+        let q : (flatten y ++ take content_limit (c ++ [])) ++ [] ≡ flatten (flatten t ++ (cs ++ (c ∷ []))) ++ [] =
         ap (λ (l : List ℕ). l ++ []) (ap (λ (l : List ℕ). flatten y ++ l) p ∙ (sym (flatten-one y c) ∙ ap flatten a)) in
         let o : lengths 0 y ++ ((length (flatten y) + length c) ∷ []) ≡ lengths 0 (flatten t ++ (cs ++ (c ∷ []))) =
         let z : length (flatten y) + length c ≡ 0 + length (flatten y) + length c = omega arith in
@@ -286,7 +286,7 @@ module _
         λ i. record { text = q i; ends = o i; rows = append-nil (lengths 0 t) i }
 
     record-out :
-        length c ≤ contentLimit
+        length c ≤ content_limit
         → then (out_of t cs c 0) (record { text = []; ends = (length (flatten (flatten t ++ cs)) + length c) ∷ []; rows = (length (flatten t ++ cs) + 1) ∷ [] })
         ≡ out_of (t ++ ((cs ++ (c ∷ [])) ∷ [])) [] [] 0
     unfolding out_of
@@ -294,8 +294,8 @@ module _
         let y = flatten t ++ cs in
         let v = t ++ ((cs ++ (c ∷ [])) ∷ []) in
         let a : y ++ (c ∷ []) ≡ flatten v ++ [] = append_assoc (flatten t) cs (c ∷ []) ∙ (sym (flatten-one t (cs ++ (c ∷ []))) ∙ sym (append-nil (flatten v))) in
-        let p : take contentLimit (c ++ []) ≡ c = ap (take contentLimit) (append-nil c) ∙ take_all contentLimit c l in
-        let q : (flatten y ++ take contentLimit (c ++ [])) ++ [] ≡ flatten (flatten v ++ []) ++ [] =
+        let p : take content_limit (c ++ []) ≡ c = ap (take content_limit) (append-nil c) ∙ take_all content_limit c l in
+        let q : (flatten y ++ take content_limit (c ++ [])) ++ [] ≡ flatten (flatten v ++ []) ++ [] =
         ap (λ (l : List ℕ). l ++ []) (ap (λ (l : List ℕ). flatten y ++ l) p ∙ (sym (flatten-one y c) ∙ ap flatten a)) in
         let o : lengths 0 y ++ ((length (flatten y) + length c) ∷ []) ≡ lengths 0 (flatten v ++ []) =
         let z : length (flatten y) + length c ≡ 0 + length (flatten y) + length c = omega arith in
@@ -324,7 +324,7 @@ module _
     no_text r u v = let y : leb r.field.content e.field.content ≡ true = rw v.content (le-leb 0 e.field.content (omega arith)) in ap not y
 
     field-ends :
-        (r : Check) → Kept r → Ended r 1 → r.field.number.0 ≡ plus e.field.number.0 1 → r.counts.width ≡ e.counts.width → length c ≤ contentLimit → Field (dialect x sum) (h ++ (b ∷ [])) c (b ∷ []) → classOf (dialect x sum) b ≡ delimiter → Good r
+        (r : Check) → Kept r → Ended r 1 → r.field.number.0 ≡ plus e.field.number.0 1 → r.counts.width ≡ e.counts.width → length c ≤ content_limit → Field (dialect x sum) (h ++ (b ∷ [])) c (b ∷ []) → class_of (dialect x sum) b ≡ delimiter → Good r
     unfolding flatten
     field-ends r i v nb wd l a q s u =
         let z = room r i s in
@@ -349,7 +349,7 @@ module _
           begun = subst (λ (y : ℕ). Fresh y (g ++ (b ∷ []))) (sym v.begun) (fresh-more g b);
           records = records-grow (dialect x sum) (b ∷ []) w.records;
           fields = fields-more (dialect x sum) (fields-grow (dialect x sum) (b ∷ []) w.fields) (Fields.more a q Fields.none);
-          at = at-start;
+          at = at_start;
           content = v.content;
           held = v.held;
           text = et ∙ sym tl;
@@ -385,7 +385,7 @@ module _
 
     record-ends :
         (r : Check) → Kept r → Ended r 0 → r.field.number.0 ≡ 0 → r.counts.width ≡ cond (eqb e.counts.width 0) (plus e.field.number.0 1) e.counts.width
-        → (names e.leniencies ragged || evenly e) ≡ true → length c ≤ contentLimit → (g' : Bytes) → Field (dialect x sum) (h ++ (b ∷ [])) c g' → Break (dialect x sum) g' [] → Good r
+        → (names e.leniencies ragged || evenly e) ≡ true → length c ≤ content_limit → (g' : Bytes) → Field (dialect x sum) (h ++ (b ∷ [])) c g' → Break (dialect x sum) g' [] → Good r
     unfolding flatten
     record-ends r i v nb wd ev l g' a q s u =
         let z = room r i s in
@@ -413,7 +413,7 @@ module _
           records = records-more (dialect x sum) (records-grow (dialect x sum) (b ∷ []) w.records)
               (Records.more (fields-record (dialect x sum) (fields-grow (dialect x sum) (b ∷ []) w.fields) a) q Records.none);
           fields = Fields.none;
-          at = at-start;
+          at = at_start;
           content = v.content;
           held = v.held;
           text = et ∙ sym tl;
@@ -436,7 +436,7 @@ module _
     refuses : (r : Check) (i : ℕ) → eqb i 0 ≡ false → r.refusal ≡ i → Good r
     refuses r i p q s u = absurd (eqb-false i 0 p (sym q ∙ (clear r s).refusal))
 
-    short : e.field.content ≤ contentLimit → length c ≤ contentLimit
+    short : e.field.content ≤ content_limit → length c ≤ content_limit
     short q = let z = w.content in omega arith
 
     same : {r : Check} {j o i : ℕ} → Within e j o i r → Same r
@@ -459,22 +459,22 @@ module _
     by-act (go j drop) r q a v = quiet r j n q (same v) v.form a v.content (v.held ∙ w.held) (omega arith)
     by-act (go j field_end) r q a (FieldEnds.ends v) = field-ends r q (ended v.over) v.number v.width (short v.over.short) a.0 a.1
     by-act (go j field_end) r q a (FieldEnds.long l v) = refuses r 9 refl v
-    by-act (go j record-end) r q a (RecordEnds.ends v) = record-ends r q (ended v.over) v.number v.width v.even (short v.over.short) a.0 a.1 a.2
-    by-act (go j record-end) r q a (RecordEnds.long l v) = refuses r 9 refl v
-    by-act (go j record-end) r q a (RecordEnds.uneven l y v) = refuses r 10 refl v
+    by-act (go j record_end) r q a (RecordEnds.ends v) = record-ends r q (ended v.over) v.number v.width v.even (short v.over.short) a.0 a.1 a.2
+    by-act (go j record_end) r q a (RecordEnds.long l v) = refuses r 9 refl v
+    by-act (go j record_end) r q a (RecordEnds.uneven l y v) = refuses r 10 refl v
 
     -- the byte
-    pub act-is : actOf e b ≡ step_of (names sum lf) k (classOf (dialect x sum) b)
+    pub act-is : act_of e b ≡ step_of (names sum lf) k (class_of (dialect x sum) b)
     act-is = rw (w.leniencies, w.delimiter, w.form, form-back k)
 
-    pub does : Does e (step_of (names sum lf) k (classOf (dialect x sum) b)) (fed e b)
+    pub does : Does e (step_of (names sum lf) k (class_of (dialect x sum) b)) (fed e b)
     does = rw act-is at (fed-does e b w.refusal)
 
     pub taken-byte : Good (fed e b)
     taken-byte =
         let q = fed-keeps e b in
-        by-act (step_of (names sum lf) k (classOf (dialect x sum) b)) (fed e b) (record { delimiter = q.delimiter; leniencies = q.leniencies; byte = fed-byte e b })
-        (makes (dialect x sum) b w.at (classOf (dialect x sum) b) refl) does
+        by-act (step_of (names sum lf) k (class_of (dialect x sum) b)) (fed e b) (record { delimiter = q.delimiter; leniencies = q.leniencies; byte = fed-byte e b })
+        (makes (dialect x sum) b w.at (class_of (dialect x sum) b) refl) does
 
 -- taking a byte that shows no refusal
 pub stand-byte :
@@ -499,7 +499,7 @@ module _ (e : Check) where
 
 module _
     (x sum : ℕ) (f : Bytes) (e : Check) (b : ℕ) (t : Table) (cs : List Content) (c : Content) (n : ℕ) (g h : Bytes) (w : Known x sum f e cr t cs c n g h)
-    (z : 0 ≤ heldIn cr n)
+    (z : 0 ≤ held_in cr n)
   where
     cr-class : (y : Class) (r : Check) → Does e (carry (names sum lf) cr y (next cr y)) r → No e r
     cr-class LF r (RecordEnds.ends v) = none-put e r v.over.content
@@ -514,14 +514,14 @@ module _
 
     cr-puts : No e (fed e b)
     cr-puts =
-        cr-class (classOf (dialect x sum) b) (fed e b) (rw (step-entry (names sum lf) cr (classOf (dialect x sum) b)) at (does x sum f e b 0 cr t cs c n g h w z))
+        cr-class (class_of (dialect x sum) b) (fed e b) (rw (step-entry (names sum lf) cr (class_of (dialect x sum) b)) at (does x sum f e b 0 cr t cs c n g h w z))
 
 held_all :
     {x sum : ℕ} {f : Bytes} {e : Check} {k : Form} {t : Table} {cs : List Content} {c : Content} {n : ℕ} {g h : Bytes} (b : ℕ) → Known x sum f e k t cs c n g h
-    → shown (fed e b) ≡ false → putsText e (fed e b) ≡ true → heldIn k n ≡ n
+    → shown (fed e b) ≡ false → putsText e (fed e b) ≡ true → held_in k n ≡ n
 held_all {x} {sum} {f} {e} {k} {t} {cs} {c} {n} {g} {h} b w = go k w
   where
-    go : (k : Form) → Known x sum f e k t cs c n g h → shown (fed e b) ≡ false → putsText e (fed e b) ≡ true → heldIn k n ≡ n
+    go : (k : Form) → Known x sum f e k t cs c n g h → shown (fed e b) ≡ false → putsText e (fed e b) ≡ true → held_in k n ≡ n
     go start w s p = refl
     go lead w s p = refl
     go bare w s p = refl
@@ -539,11 +539,11 @@ stand-blanks {x} {sum} {m} {f} {e} {o} b j (standing {k} {t} {cs} {c} {n} {g} {h
     let a = held_all b w s p in
     let w₁ = w.content in
     let w₂ = w.held in
-    let i' : j ≤ min (e.field.held - m) (contentLimit - (e.field.content + m)) = rw p at i in
-    let i'' : j ≤ min (n - m) (contentLimit - (length c + m)) = omega arith in
+    let i' : j ≤ min (e.field.held - m) (content_limit - (e.field.content + m)) = rw p at i in
+    let i'' : j ≤ min (n - m) (content_limit - (length c + m)) = omega arith in
     let z = flatten (flatten t ++ cs) in
-    let u : (z ++ take contentLimit (c ++ replicate m 0x20)) ++ replicate j 0x20 ≡ z ++ take contentLimit (c ++ replicate (m + j) 0x20) =
-    append_assoc z (take contentLimit (c ++ replicate m 0x20)) (replicate j 0x20) ∙ ap (λ (l : List ℕ). z ++ l) (blanks-left contentLimit c m n 0x20 b (omega arith) j i'') in
+    let u : (z ++ take content_limit (c ++ replicate m 0x20)) ++ replicate j 0x20 ≡ z ++ take content_limit (c ++ replicate (m + j) 0x20) =
+    append_assoc z (take content_limit (c ++ replicate m 0x20)) (replicate j 0x20) ∙ ap (λ (l : List ℕ). z ++ l) (blanks-left content_limit c m n 0x20 b (omega arith) j i'') in
     standing w (omega arith)
     (ap (λ (r : Out). then r (record { text = replicate j 0x20; ends = []; rows = [] })) q
     ∙ λ i. record { text = u i; ends = append-nil (lengths 0 (flatten t ++ cs)) i; rows = append-nil (lengths 0 t) i })

@@ -3,7 +3,7 @@ use Rattle.std.specs.Prelude.{ℕ, ◌≤◌, ◌≡◌, length, take, replicate
 use mathlib.Core.List.{List, [], ◌++◌, flatten}
 use Rattle.format.specs.Table.{Bytes, Content, Table, Every}
 use Rattle.format.specs.Dialect.{Dialect}
-use Rattle.format.specs.House.{contentLimit, Fits}
+use Rattle.format.specs.House.{content_limit, Fits}
 use Rattle.format.specs.Memory.{lengths}
 use Rattle.format.specs.SoFar.{SoFar}
 
@@ -24,7 +24,7 @@ then o p = record { text = o.text ++ p.text; ends = o.ends ++ p.ends; rows = o.r
 unfoldable pub out_of : Table → List Content → Content → ℕ → Out
 out_of t cs c m =
     record {
-      text = flatten (flatten t ++ cs) ++ take contentLimit (c ++ replicate m 0x20);
+      text = flatten (flatten t ++ cs) ++ take content_limit (c ++ replicate m 0x20);
       ends = lengths 0 (flatten t ++ cs);
       rows = lengths 0 t;
     }
@@ -37,7 +37,7 @@ pub data CameOut (d : Dialect) (f : Bytes) (m : ℕ) (o : Out) : Type 0 where
 pub record Contents (o : Out) : Type 0 where
   pub whole : List Content
   pub last : Content
-  pub text-is : o.text ≡ flatten whole ++ last
-  pub ends-are : o.ends ≡ lengths 0 whole
+  pub text_is : o.text ≡ flatten whole ++ last
+  pub ends_are : o.ends ≡ lengths 0 whole
   pub fit : Every Fits whole
-  pub cut : length last ≤ contentLimit
+  pub cut : length last ≤ content_limit

@@ -3,10 +3,10 @@ use Rattle.std.specs.Prelude.{ℕ, ◌≡◌, true, false, List, [], ◌∷◌, 
 use Rattle.format.specs.declared.Place.{Place}
 use Rattle.format.specs.Table.{Bytes, Table}
 use Rattle.format.specs.Dialect.{dialect, Valid}
-use Rattle.format.specs.Memory.{text_of, endsOf, rows_of}
+use Rattle.format.specs.Memory.{text_of, ends_of, rows_of}
 use Rattle.format.specs.Reading.{Accepted, Refused}
 use Rattle.state.specs.declared.Check.{Check}
-use Rattle.state.specs.Check.{started, fed, fedAll}
+use Rattle.state.specs.Check.{started, fed, fed_all}
 use Rattle.format.specs.Filling.{over}
 use Rattle.output.specs.declared.Stream.{Stream}
 use Rattle.output.specs.declared.Streamed.{Streamed}
@@ -20,26 +20,26 @@ pub data Awaits (c : Check) : ℕ → Bytes → Type 0 where
 
 -- what is out of a table that was accepted: all of it
 abbrev pub wholeOut : Table → Out
-wholeOut t = record { text = text_of t; ends = endsOf t; rows = rows_of t }
+wholeOut t = record { text = text_of t; ends = ends_of t; rows = rows_of t }
 
 -- `Stands b sum f g o s`: in the dialect of two bytes the state s has taken f and is to be handed g next; o is out
 pub data Stands (b sum : ℕ) : Bytes → Bytes → Out → Stream → Type 0 where
   -- two bytes that are no dialect: nothing is ever taken
-  no-dialect : {g : Bytes} {o : Out} {s : Stream} → (Valid b sum → ⊥) → s.check ≡ started b sum → o ≡ nothing → Stands b sum [] g o s
+  no_dialect : {g : Bytes} {o : Out} {s : Stream} → (Valid b sum → ⊥) → s.check ≡ started b sum → o ≡ nothing → Stands b sum [] g o s
   -- no refusal is shown so far
   going : {f g : Bytes} {o : Out} {s : Stream}
-      → s.check ≡ fedAll (started b sum) f → shown s.check ≡ false → s.closed ≡ 0 → CameOut (dialect b sum) f s.early o → Awaits s.check s.early g
+      → s.check ≡ fed_all (started b sum) f → shown s.check ≡ false → s.closed ≡ 0 → CameOut (dialect b sum) f s.early o → Awaits s.check s.early g
       → Stands b sum f g o s
   -- the last byte taken showed one: what is out is what was out before it, and no blank that was held
   refused : {f g : Bytes} {o : Out} {s : Stream} (e : Bytes) (x : ℕ)
-      → f ≡ e ++ (x ∷ []) → shown (fedAll (started b sum) e) ≡ false → s.check ≡ fedAll (started b sum) f → shown s.check ≡ true
+      → f ≡ e ++ (x ∷ []) → shown (fed_all (started b sum) e) ≡ false → s.check ≡ fed_all (started b sum) f → shown s.check ≡ true
       → CameOut (dialect b sum) e 0 o → Stands b sum f g o s
   -- the close gave one
   declined : {n : ℕ} {p : Place} {f g : Bytes} {o : Out} {s : Stream}
-      → s.check ≡ fedAll (started b sum) f → shown s.check ≡ false → s.closed ≡ 1 → Refused b sum f n p → CameOut (dialect b sum) f 0 o → Stands b sum f g o s
+      → s.check ≡ fed_all (started b sum) f → shown s.check ≡ false → s.closed ≡ 1 → Refused b sum f n p → CameOut (dialect b sum) f 0 o → Stands b sum f g o s
   -- the close accepted the file
   accepted : {r : ℕ} {t : Table} {f g : Bytes} {o : Out} {s : Stream}
-      → s.check ≡ fedAll (started b sum) f → s.closed ≡ 1 → Accepted b sum f t r → o ≡ wholeOut t → Stands b sum f g o s
+      → s.check ≡ fed_all (started b sum) f → s.closed ≡ 1 → Accepted b sum f t r → o ≡ wholeOut t → Stands b sum f g o s
 
 -- A call as the code gives it: what is filled is counted, and what came out stands over the front of each buffer, the rest of which stays.
 pub record Into (c : Called) (text : Bytes) (ends rows : List ℕ) (r : Streamed) (text' : Bytes) (ends' rows' : List ℕ) : Type 0 where
@@ -48,10 +48,10 @@ pub record Into (c : Called) (text : Bytes) (ends rows : List ℕ) (r : Streamed
   pub short : r.short ≡ c.short
   pub closed : r.closed ≡ closedBy c.state
   pub answer : r.answer ≡ answer_of c.state
-  pub text-count : r.text ≡ length c.out.text
+  pub text_count : r.text ≡ length c.out.text
   pub ends-count : r.ends ≡ length c.out.ends
   pub rows-count : r.rows ≡ length c.out.rows
-  pub text-is : text' ≡ over c.out.text text
+  pub text_is : text' ≡ over c.out.text text
   pub ends_is : ends' ≡ over c.out.ends ends
   pub rows_is : rows' ≡ over c.out.rows rows
 

@@ -1,11 +1,11 @@
 -- What a call does to any state: how much it takes, what it puts out, the state behind it.
 use Rattle.std.specs.Prelude.{ℕ, suc, ◌+◌, ◌-◌, ◌*◌, min, Bool, cond, not, ◌&&◌, ◌||◌, List, [], ◌∷◌, ◌++◌, eqb, leb, length, replicate}
 use Rattle.format.specs.declared.Answer.{Answer}
-use Rattle.format.specs.Answer.{refusedBy}
+use Rattle.format.specs.Answer.{refused_by}
 use Rattle.format.specs.Place.{nowhere}
 use Rattle.format.specs.Table.{Bytes}
-use Rattle.format.specs.House.{contentLimit, fileLimit}
-use Rattle.steps.specs.Model.{isValid}
+use Rattle.format.specs.House.{content_limit, file_limit}
+use Rattle.steps.specs.Model.{is_valid}
 use Rattle.state.specs.declared.Check.{Check}
 use Rattle.state.specs.Check.{started, fed}
 use Rattle.pieces.specs.Asked.{asked}
@@ -14,7 +14,7 @@ use Rattle.output.specs.Out.{Out, nothing, then}
 
 -- a refusal is shown: by the dialect bytes, by the length, or by a byte
 unfoldable pub shown : Check → Bool
-shown c = not (isValid c.delimiter c.leniencies) || (not (leb c.here.byte.0 fileLimit) || not (eqb c.refusal 0))
+shown c = not (is_valid c.delimiter c.leniencies) || (not (leb c.here.byte.0 file_limit) || not (eqb c.refusal 0))
 
 -- a stream before any byte
 unfoldable pub streamStarted : ℕ → ℕ → Stream
@@ -36,10 +36,10 @@ endsRecord e = eqb e.form 0 && eqb e.begun 0
 
 -- the held blanks that come out before a byte of content, where m are out already, and whether that byte does: up to the content limit
 abbrev pub blanksLeft : ℕ → Check → ℕ
-blanksLeft m c = min (c.field.held - m) (contentLimit - (c.field.content + m))
+blanksLeft m c = min (c.field.held - m) (content_limit - (c.field.content + m))
 
 abbrev pub byteLeft : Check → Bool
-byteLeft c = leb (c.field.content + c.field.held + 1) contentLimit
+byteLeft c = leb (c.field.content + c.field.held + 1) content_limit
 
 -- one entry, or none
 abbrev pub when : Bool → ℕ → List ℕ
@@ -132,7 +132,7 @@ closed s r =
 
 -- the answer of a state: 0 throughout while it is open, and then the check's
 unfoldable pub answer_of : Stream → Answer
-answer_of s = cond (is_over s) (asked s.check) (refusedBy 0 nowhere)
+answer_of s = cond (is_over s) (asked s.check) (refused_by 0 nowhere)
 
 -- 1 from an accepted close on
 unfoldable pub closedBy : Stream → ℕ

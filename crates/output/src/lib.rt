@@ -3,7 +3,7 @@
 // specs/Out.antt says what is out, by the grammar; specs/Stream.antt what a call does to any state;
 // specs/Promises.antt what a state stands for, and so what the calls of the crate `stream` mean.
 ghost use Rattle.std.specs.Prelude.{◌+◌, ◌-◌, ◌≤◌, min, ◌≡◌, ◌&&◌};
-ghost use Rattle.format.specs.House.{contentLimit};
+ghost use Rattle.format.specs.House.{content_limit};
 ghost use Rattle.output.specs.Stream.{onward, shown, is_over, putsText, endsField, endsRecord, byteLeft, blanksDue, answer_of, closedBy};
 
 use format::Answer;
@@ -108,7 +108,7 @@ fn blanks_due(early: u32, c: Check, e: Check) -> u32
 
 // As many of the blanks held as the content limit leaves room for.
 fn blanks_left(early: u32, content: u32, held: u32) -> u32
-    ensures value { result ≡ min (held - early) (contentLimit - (content + early)) }
+    ensures value { result ≡ min (held - early) (content_limit - (content + early)) }
     ensures result_bound { early + result ≤ 4294967295 }
 {
     smaller(

@@ -3,8 +3,8 @@
 ghost use Rattle.std.specs.Prelude.{◌-◌, ◌≤◌, ◌≡◌, true, false, length, take, drop};
 ghost use Rattle.std.proofs.lemmas.List.Edits.{sets};
 ghost use Rattle.fill.specs.Walk.{raised};
-ghost use Rattle.taking.specs.Walk.{rest_of, insideBy, Put, Grew, Unmoved};
-ghost use Rattle.room.specs.Room.{Ample, putOut};
+ghost use Rattle.taking.specs.Walk.{rest_of, inside_by, Put, Grew, Unmoved};
+ghost use Rattle.room.specs.Room.{Ample, put_out};
 ghost use Rattle.parts.specs.Parts.{Raisable};
 
 use fill::Head;
@@ -23,8 +23,8 @@ pub fn passed(
     ends: &mut [u32],
     rows: &mut [u32],
 ) -> Flow
-    ensures grew { insideBy p (length piece.now) (length text.old) (length ends.old) (length rows.old) ≡ true → Grew piece.now p text.old ends.old rows.old result text.new ends.new rows.new (rest_of result piece.now text.new ends.new rows.new) }
-    ensures unmoved { insideBy p (length piece.now) (length text.old) (length ends.old) (length rows.old) ≡ false → Unmoved p text.old ends.old rows.old result text.new ends.new rows.new }
+    ensures grew { inside_by p (length piece.now) (length text.old) (length ends.old) (length rows.old) ≡ true → Grew piece.now p text.old ends.old rows.old result text.new ends.new rows.new (rest_of result piece.now text.new ends.new rows.new) }
+    ensures unmoved { inside_by p (length piece.now) (length text.old) (length ends.old) (length rows.old) ≡ false → Unmoved p text.old ends.old rows.old result text.new ends.new rows.new }
 {
     let n = room::part(p, most, piece.len(), text.len(), ends.len(), rows.len());
     if n < LEAST {
@@ -58,9 +58,9 @@ fn put_part(
 ) -> Head
     requires taken_le_to { p.taken ≤ to }
     requires ample { Ample p (to - p.taken) piece.now text.old ends.old rows.old }
-    ensures put { Put text.old p.text (putOut p.state.check (take (to - p.taken) (drop p.taken piece.now))).text text.new result.text }
-    ensures put_2 { Put ends.old p.ends (putOut p.state.check (take (to - p.taken) (drop p.taken piece.now))).ends ends.new result.ends }
-    ensures put_3 { Put rows.old p.rows (putOut p.state.check (take (to - p.taken) (drop p.taken piece.now))).rows rows.new result.rows }
+    ensures put { Put text.old p.text (put_out p.state.check (take (to - p.taken) (drop p.taken piece.now))).text text.new result.text }
+    ensures put_2 { Put ends.old p.ends (put_out p.state.check (take (to - p.taken) (drop p.taken piece.now))).ends ends.new result.ends }
+    ensures put_3 { Put rows.old p.rows (put_out p.state.check (take (to - p.taken) (drop p.taken piece.now))).rows rows.new result.rows }
 {
     let head = Head {
         at: p.taken,

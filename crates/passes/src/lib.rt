@@ -5,8 +5,8 @@
 // affair.
 ghost use Rattle.std.specs.Prelude.{◌≤◌, length, true, ◌≡◌};
 ghost use Rattle.steps.specs.Steps.{bare, quoted};
-ghost use Rattle.steps.specs.Numbers.{formNumber};
-ghost use Rattle.places.specs.Counters.{counterLimit};
+ghost use Rattle.steps.specs.Numbers.{form_number};
+ghost use Rattle.places.specs.Counters.{counter_limit};
 ghost use Rattle.state.specs.Settled.{Settled};
 ghost use Rattle.spans.specs.Walk.{opening, begun, texted, walked};
 ghost use Rattle.passes.specs.Passes.{Leads};
@@ -71,7 +71,7 @@ fn pass_refused(check: Check, s: &[u8], at: usize) -> Reached
 
 // Whether no counter of a place is past its stop.
 fn is_before_stop(p: Place) -> bool
-    ensures { result ≡ true → (p.line.0 ≤ counterLimit) × (p.column.0 ≤ counterLimit) × (p.byte.0 ≤ counterLimit) }
+    ensures { result ≡ true → (p.line.0 ≤ counter_limit) × (p.column.0 ≤ counter_limit) × (p.byte.0 ≤ counter_limit) }
 {
     if places::COUNTER_LIMIT < p.line.0 {
         return false;
@@ -85,7 +85,7 @@ fn is_before_stop(p: Place) -> bool
 // Passes plain text outside quotes.
 fn pass_text(check: Check, s: &[u8], at: usize) -> Reached
     requires at_in_bounds { at ≤ length s.now }
-    requires refusal_value { (check.refusal ≡ 0) × (check.form ≤ formNumber bare) }
+    requires refusal_value { (check.refusal ≡ 0) × (check.form ≤ form_number bare) }
     ensures { Leads check s.now at result }
 {
     let k = runs::text_run(check.delimiter, check.leniencies, s, at);
@@ -103,7 +103,7 @@ fn pass_text(check: Check, s: &[u8], at: usize) -> Reached
 // Passes content between quotes.
 fn pass_inside(check: Check, s: &[u8], at: usize) -> Reached
     requires at_in_bounds { at ≤ length s.now }
-    requires refusal_value { (check.refusal ≡ 0) × (check.form ≡ formNumber quoted) }
+    requires refusal_value { (check.refusal ≡ 0) × (check.form ≡ form_number quoted) }
     ensures { Leads check s.now at result }
 {
     if !is_settled(check) {
@@ -121,7 +121,7 @@ fn pass_inside(check: Check, s: &[u8], at: usize) -> Reached
 
 // Whether content between quotes is one jump from here.
 fn is_settled(check: Check) -> bool
-    ensures { result ≡ true → check.refusal ≡ 0 → check.form ≡ formNumber quoted → Settled check }
+    ensures { result ≡ true → check.refusal ≡ 0 → check.form ≡ form_number quoted → Settled check }
 {
     if check.delimiter == 0x22 {
         return false;

@@ -4,12 +4,12 @@
 // at once in `passes`; specs/Answers.antt says what a state stands for, and so what the answers mean.
 ghost use Rattle.std.specs.Prelude.{true, ◌≡◌};
 ghost use Rattle.format.specs.Place.{place};
-ghost use Rattle.format.specs.Answer.{refusedBy};
+ghost use Rattle.format.specs.Answer.{refused_by};
 ghost use Rattle.steps.specs.Steps.{start, shut};
-ghost use Rattle.steps.specs.Numbers.{formNumber};
+ghost use Rattle.steps.specs.Numbers.{form_number};
 ghost use Rattle.places.specs.Counters.{along};
 ghost use Rattle.state.specs.Check.{entered, placed, fed, jumped};
-ghost use Rattle.pieces.specs.Asked.{bitIf, totalled, settledAnswer};
+ghost use Rattle.pieces.specs.Asked.{bit_if, totalled, settled_answer};
 ghost use Rattle.pieces.specs.Answers.{Answers, Started, Fed, Asked};
 
 use format::{Answer, ByteOffset, Column, FieldNumber, Line, Place, Totals};
@@ -123,7 +123,7 @@ pub fn checked(file: &[u8], delimiter: u8, leniencies: u8) -> Answer
 
 // The answer of a refusal, with the place that it names: of the totals nothing is said.
 pub fn refused_by(n: u8, p: Place) -> Answer
-    ensures { result ≡ refusedBy n p }
+    ensures { result ≡ refused_by n p }
 {
     let fields = FieldNumber(0);
     let totals = Totals {
@@ -163,7 +163,7 @@ fn taken(check: Check, b: u8) -> Check
 // quote of a pair is; start, which no byte jumps to, where it is neither.
 fn jump_form(check: Check, b: u8) -> u8
     requires { check.refusal ≡ 0 }
-    ensures { (result ≡ formNumber start → ⊥) → fed check b ≡ jumped result (along 1 check.here) 1 check }
+    ensures { (result ≡ form_number start → ⊥) → fed check b ≡ jumped result (along 1 check.here) 1 check }
 {
     if check.form == steps::QUOTED {
         if runs::is_inner(b) {
@@ -198,7 +198,7 @@ fn is_quote(check: Check, k: u8, b: u8) -> bool
 
 // The state behind a quote that may close the field, or be the first of a pair.
 fn shut(check: Check) -> Check
-    ensures { result ≡ placed (along 1 check.here) (entered (formNumber shut) check.anchor check.used check.field check) }
+    ensures { result ≡ placed (along 1 check.here) (entered (form_number shut) check.anchor check.used check.field check) }
 {
     let here = check.here;
     let next = places::along(1, here);
@@ -211,7 +211,7 @@ fn shut(check: Check) -> Check
 
 // The answer of a state that no open field leaves.
 fn settled(check: Check) -> Answer
-    ensures { result ≡ settledAnswer check }
+    ensures { result ≡ settled_answer check }
 {
     if check.refusal != 0 {
         let anchor = check.anchor;
@@ -245,7 +245,7 @@ fn totalled(check: Check) -> Totals
 
 // The bit n of a leniency that was used.
 fn bit_if(used: u8, n: u32) -> u32
-    ensures { result ≡ bitIf used n }
+    ensures { result ≡ bit_if used n }
 {
     if used == 0 { 0 } else { n }
 }

@@ -9,27 +9,27 @@ use lib.ListN.{length}
 use borrow.Author.Tests.{ne_eqb}
 use Rattle.format.specs.declared.Place.{Place}
 use Rattle.format.specs.Table.{Bytes}
-use Rattle.format.specs.House.{fileLimit}
+use Rattle.format.specs.House.{file_limit}
 use Rattle.format.specs.Place.{place, place_of}
 use Rattle.format.proofs.Places.{after, after-lf, after-other, place-step, PlaceWithin, place-within}
-use Rattle.places.specs.Counters.{counterLimit, plus, moved, along, spot}
+use Rattle.places.specs.Counters.{counter_limit, plus, moved, along, spot}
 
 -- the sum of counters, without the stops on the way
-pub plus-is : (a b : ℕ) → plus a b ≡ min (a + b) counterLimit
+pub plus-is : (a b : ℕ) → plus a b ≡ min (a + b) counter_limit
 plus-is a b = omega arith
 
-stop-stop : (a b : ℕ) → min (min a counterLimit + b) counterLimit ≡ min (a + b) counterLimit
+stop-stop : (a b : ℕ) → min (min a counter_limit + b) counter_limit ≡ min (a + b) counter_limit
 stop-stop a b = omega arith
 
 pub plus-plus : (a m n : ℕ) → plus (plus a m) n ≡ plus a (m + n)
 plus-plus a m n =
     let e : a + m + n ≡ a + (m + n) = omega arith in
-    plus-is (plus a m) n ∙ ap (λ (x : ℕ). min (x + n) counterLimit) (plus-is a m) ∙ stop-stop (a + m) n ∙ ap (λ (x : ℕ). min x counterLimit) e ∙ sym (plus-is a (m + n))
+    plus-is (plus a m) n ∙ ap (λ (x : ℕ). min (x + n) counter_limit) (plus-is a m) ∙ stop-stop (a + m) n ∙ ap (λ (x : ℕ). min x counter_limit) e ∙ sym (plus-is a (m + n))
 
-pub plus_none : (n : ℕ) → plus 0 n ≡ min n counterLimit
+pub plus_none : (n : ℕ) → plus 0 n ≡ min n counter_limit
 plus_none n = omega arith
 
-pub plus-counted : (a n : ℕ) → plus a (min n counterLimit) ≡ plus a n
+pub plus-counted : (a n : ℕ) → plus a (min n counter_limit) ≡ plus a n
 plus-counted a n = omega arith
 
 -- a byte that is no LF moves the place along
@@ -57,7 +57,7 @@ line-behind l t n p q e =
     let byte : plus p.byte.0 1 ≡ plus q.byte.0 n = ap (λ (x : Place). x.byte.0) e in
     rw (line, byte, plus-plus q.line.0 l 1, ne_eqb (l + 1) 0 (λ z. omega arith))
 
-pub spot-none : (p : Place) → p.line.0 ≤ counterLimit → p.column.0 ≤ counterLimit → p.byte.0 ≤ counterLimit → spot 0 0 0 p ≡ p
+pub spot-none : (p : Place) → p.line.0 ≤ counter_limit → p.column.0 ≤ counter_limit → p.byte.0 ≤ counter_limit → spot 0 0 0 p ≡ p
 unfolding spot
 spot-none p a b c =
     let x : plus p.line.0 0 ≡ p.line.0 = omega arith in
@@ -72,11 +72,11 @@ spot-further l i j a k p h₁ h₂ =
     let e₂ : i - a + k ≡ i + k - a = omega arith in
     spot-along k l (i - j) (i - a) p ∙ ap₂ (λ (t n : ℕ). spot l t n p) e₁ e₂
 
-pub spot-low : (l t n : ℕ) (p : Place) → (spot l t n p).line.0 ≤ counterLimit
+pub spot-low : (l t n : ℕ) (p : Place) → (spot l t n p).line.0 ≤ counter_limit
 unfolding spot
 spot-low l t n p = omega arith
 
-pub along-spot : (k : ℕ) (p : Place) → p.line.0 ≤ counterLimit → along k p ≡ spot 0 k k p
+pub along-spot : (k : ℕ) (p : Place) → p.line.0 ≤ counter_limit → along k p ≡ spot 0 k k p
 unfolding spot
 along-spot k p h = let e : plus p.line.0 0 ≡ p.line.0 = omega arith in rw e
 
@@ -102,7 +102,7 @@ moved-byte b p = go (eqb b 0x0A)
     go false = refl
 
 -- a place moves as the file's does, as long as no counter stops
-pub moved-is : (s : Bytes) (b : ℕ) (f : Bytes) → length s + 1 ≤ fileLimit → moved b (place_of (s ++ (b ∷ f)) (b ∷ f)) ≡ place_of (s ++ (b ∷ f)) f
+pub moved-is : (s : Bytes) (b : ℕ) (f : Bytes) → length s + 1 ≤ file_limit → moved b (place_of (s ++ (b ∷ f)) (b ∷ f)) ≡ place_of (s ++ (b ∷ f)) f
 unfolding moved
 moved-is s b f h = rw (place-step s b f) (go (place_of (s ++ (b ∷ f)) (b ∷ f)) (place-within s (b ∷ f)) (eqb b 0x0A) refl)
   where

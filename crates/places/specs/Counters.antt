@@ -1,16 +1,16 @@
 -- Counters that stop, and how they move a place: for every place.
 use Rattle.std.specs.Prelude.{ℕ, ◌+◌, min, cond, eqb}
 use Rattle.format.specs.declared.Place.{Place}
-use Rattle.format.specs.House.{fileLimit}
+use Rattle.format.specs.House.{file_limit}
 use Rattle.format.specs.Place.{place}
 
 -- counters stop here: one past the file limit
-abbrev pub counterLimit : ℕ
-counterLimit = fileLimit + 1
+abbrev pub counter_limit : ℕ
+counter_limit = file_limit + 1
 
 -- the sum of two counters
 abbrev pub plus : ℕ → ℕ → ℕ
-plus a b = min (min a counterLimit + min b counterLimit) counterLimit
+plus a b = min (min a counter_limit + min b counter_limit) counter_limit
 
 -- the place behind a byte
 unfoldable pub moved : ℕ → Place → Place

@@ -4,7 +4,7 @@
 // these does, for every place.
 ghost use Rattle.std.specs.Prelude.{min, ◌≡◌};
 ghost use Rattle.format.specs.Place.{place, nowhere};
-ghost use Rattle.places.specs.Counters.{counterLimit, plus, moved, along, spot};
+ghost use Rattle.places.specs.Counters.{counter_limit, plus, moved, along, spot};
 
 use format::{ByteOffset, Column, Line, Place};
 
@@ -20,14 +20,14 @@ pub fn plus(a: u32, n: usize) -> u32
 
 // A counter, stopped there.
 fn stop(n: u32) -> u32
-    ensures { result ≡ min n counterLimit }
+    ensures { result ≡ min n counter_limit }
 {
     if n < COUNTER_LIMIT { n } else { COUNTER_LIMIT }
 }
 
 // A length as a counter.
 fn counted(n: usize) -> u32
-    ensures { result ≡ min n counterLimit }
+    ensures { result ≡ min n counter_limit }
 {
     if n < (COUNTER_LIMIT as usize) {
         n as u32

@@ -8,9 +8,9 @@ use lib.ListN.{length, take}
 use lib.Seq.{take-append_seam}
 use Rattle.format.specs.declared.Totals.{Totals}
 use Rattle.format.specs.declared.Answer.{Answer}
-use Rattle.format.specs.Answer.{acceptedAs, refusedBy}
+use Rattle.format.specs.Answer.{accepted_as, refused_by}
 use Rattle.format.specs.Table.{Bytes, Table}
-use Rattle.format.specs.Memory.{text_of, endsOf, rows_of, WellFormed, table_of}
+use Rattle.format.specs.Memory.{text_of, ends_of, rows_of, WellFormed, table_of}
 use Rattle.format.specs.Place.{nowhere}
 use Rattle.format.specs.Reading.{Accepted}
 use Rattle.format.proofs.CanHold.{reading-can-hold}
@@ -21,45 +21,45 @@ use Rattle.steps.proofs.Theorems.{one-accepted, one-refused, never_both}
 use Rattle.pieces.specs.Answers.{Answers, accepted, refused}
 use Rattle.pieces.proofs.Stands.{one_answer}
 use Rattle.format.specs.Filling.{over}
-use Rattle.reader.specs.Read.{Room, NoRoom, no_text, no-ends, no_rows, ReadOutcome}
+use Rattle.reader.specs.Read.{Room, NoRoom, no_text, no_ends, no_rows, ReadOutcome}
 
 -- the tests of room exclude each other
 module _ {t : Table} {text : Bytes} {ends rows : List ℕ} where
   one-room : {n m : ℕ} → NoRoom t text ends rows n → NoRoom t text ends rows m → n ≡ m
   one-room (no_text h) (no_text i) = refl
-  one-room (no_text h) (no-ends i j) = absurd (omega arith)
+  one-room (no_text h) (no_ends i j) = absurd (omega arith)
   one-room (no_text h) (no_rows i j k) = absurd (omega arith)
-  one-room (no-ends g h) (no_text i) = absurd (omega arith)
-  one-room (no-ends g h) (no-ends i j) = refl
-  one-room (no-ends g h) (no_rows i j k) = absurd (omega arith)
+  one-room (no_ends g h) (no_text i) = absurd (omega arith)
+  one-room (no_ends g h) (no_ends i j) = refl
+  one-room (no_ends g h) (no_rows i j k) = absurd (omega arith)
   one-room (no_rows f g h) (no_text i) = absurd (omega arith)
-  one-room (no_rows f g h) (no-ends i j) = absurd (omega arith)
+  one-room (no_rows f g h) (no_ends i j) = absurd (omega arith)
   one-room (no_rows f g h) (no_rows i j k) = refl
 
   -- their numbers are 11 to 13
   pub room-number : {n : ℕ} → NoRoom t text ends rows n → (11 ≤ n) × (n ≤ 13)
   room-number (no_text h) = (omega arith, omega arith)
-  room-number (no-ends g h) = (omega arith, omega arith)
+  room-number (no_ends g h) = (omega arith, omega arith)
   room-number (no_rows f g h) = (omega arith, omega arith)
 
   room-or-not : {n : ℕ} → Room t text ends rows → NoRoom t text ends rows n → ⊥
-  room-or-not r (no_text h) = omega (arith, r.for-text)
-  room-or-not r (no-ends g h) = omega (arith, r.for-ends)
-  room-or-not r (no_rows f g h) = omega (arith, r.for-rows)
+  room-or-not r (no_text h) = omega (arith, r.for_text)
+  room-or-not r (no_ends g h) = omega (arith, r.for_ends)
+  room-or-not r (no_rows f g h) = omega (arith, r.for_rows)
 
 module _ {b sum : ℕ} {f text : Bytes} {ends rows : List ℕ} where
   -- any two outcomes that the promise allows are equal, buffers included
   pub one-outcome :
       {a a' : Answer} {x x' : Bytes} {y y' z z' : List ℕ}
       → ReadOutcome b sum f text ends rows a x y z → ReadOutcome b sum f text ends rows a' x' y' z' → (a ≡ a') × (x ≡ x') × (y ≡ y') × (z ≡ z')
-  one-outcome (ReadOutcome.refused h) (ReadOutcome.refused i) = let e = one-refused h i in ((λ j. refusedBy (e.0 j) (e.1 j)), refl, refl, refl)
+  one-outcome (ReadOutcome.refused h) (ReadOutcome.refused i) = let e = one-refused h i in ((λ j. refused_by (e.0 j) (e.1 j)), refl, refl, refl)
   one-outcome (ReadOutcome.refused h) (ReadOutcome.no_room i k) = absurd (never_both i h)
   one-outcome (ReadOutcome.refused h) (ReadOutcome.filled i k) = absurd (never_both i h)
   one-outcome (ReadOutcome.no_room h k) (ReadOutcome.refused i) = absurd (never_both h i)
   one-outcome (ReadOutcome.no_room {n} h k) (ReadOutcome.no_room i l) =
       let e = one-accepted h i in
       let s = one-room (subst (λ (t : Table). NoRoom t text ends rows n) e.0 k) l in
-      (ap (λ (m : ℕ). refusedBy m nowhere) s, refl, refl, refl)
+      (ap (λ (m : ℕ). refused_by m nowhere) s, refl, refl, refl)
   one-outcome (ReadOutcome.no_room h k) (ReadOutcome.filled {t} i l) =
       absurd (room-or-not (subst (λ (u : Table). Room u text ends rows) (one-accepted i h).0 l) k)
   one-outcome (ReadOutcome.filled h k) (ReadOutcome.refused i) = absurd (never_both h i)
@@ -67,20 +67,20 @@ module _ {b sum : ℕ} {f text : Bytes} {ends rows : List ℕ} where
       absurd (room-or-not (subst (λ (u : Table). Room u text ends rows) (one-accepted h i).0 k) l)
   one-outcome (ReadOutcome.filled h k) (ReadOutcome.filled i l) =
       let e = one-accepted h i in (
-        (λ j. acceptedAs (e.0 j) (e.1 j)),
+        (λ j. accepted_as (e.0 j) (e.1 j)),
         ap (λ (t : Table). over (text_of t) text) e.0,
-        ap (λ (t : Table). over (endsOf t) ends) e.0,
+        ap (λ (t : Table). over (ends_of t) ends) e.0,
         ap (λ (t : Table). over (rows_of t) rows) e.0,
       )
 
 -- The check's answer is the reader's, 11 to 13 apart: those come where the check accepts.
-pub check-is-read :
+pub check_is_read :
     {b sum : ℕ} {f text : Bytes} {ends rows : List ℕ} {a a' : Answer} {x : Bytes} {y z : List ℕ}
     → Answers b sum f a → ReadOutcome b sum f text ends rows a' x y z
-    → (a ≡ a') ⊎ ((t : Table) × (r n : ℕ) × (a ≡ acceptedAs t r) × NoRoom t text ends rows n × (a' ≡ refusedBy n nowhere))
-check-is-read h (ReadOutcome.refused i) = inl (one_answer h (refused i))
-check-is-read h (ReadOutcome.no_room {t} {r} {n} i k) = inr (t, r, n, one_answer h (accepted i), k, refl)
-check-is-read h (ReadOutcome.filled i k) = inl (one_answer h (accepted i))
+    → (a ≡ a') ⊎ ((t : Table) × (r n : ℕ) × (a ≡ accepted_as t r) × NoRoom t text ends rows n × (a' ≡ refused_by n nowhere))
+check_is_read h (ReadOutcome.refused i) = inl (one_answer h (refused i))
+check_is_read h (ReadOutcome.no_room {t} {r} {n} i k) = inr (t, r, n, one_answer h (accepted i), k, refl)
+check_is_read h (ReadOutcome.filled i k) = inl (one_answer h (accepted i))
 
 -- what a read that is not refused has done
 pub record Filled (b sum : ℕ) (f text : Bytes) (ends rows : List ℕ) (a : Answer) (x : Bytes) (y z : List ℕ) : Type 0 where
@@ -88,9 +88,9 @@ pub record Filled (b sum : ℕ) (f text : Bytes) (ends rows : List ℕ) (a : Ans
   pub report : ℕ
   pub accepted : Accepted b sum f table report
   pub room : Room table text ends rows
-  pub answer-is : a ≡ acceptedAs table report
-  pub text-is : x ≡ over (text_of table) text
-  pub ends_is : y ≡ over (endsOf table) ends
+  pub answer_is : a ≡ accepted_as table report
+  pub text_is : x ≡ over (text_of table) text
+  pub ends_is : y ≡ over (ends_of table) ends
   pub rows_is : z ≡ over (rows_of table) rows
 
 module _ {b sum : ℕ} {f text : Bytes} {ends rows : List ℕ} where
@@ -99,7 +99,7 @@ module _ {b sum : ℕ} {f text : Bytes} {ends rows : List ℕ} where
   not-refused (ReadOutcome.refused h) e = absurd (omega (arith, refused-number h))
   not-refused (ReadOutcome.no_room h k) e = absurd (omega (arith, (room-number k).0))
   not-refused (ReadOutcome.filled {t} {r} h k) e =
-      record { table = t; report = r; accepted = h; room = k; answer-is = refl; text-is = refl; ends_is = refl; rows_is = refl }
+      record { table = t; report = r; accepted = h; room = k; answer_is = refl; text_is = refl; ends_is = refl; rows_is = refl }
 
   -- a refusal leaves every buffer as it was
   pub refused-same :
@@ -113,8 +113,8 @@ module _ (t : Table) where
   pub used-text : (text : Bytes) → take (length (text_of t)) (over (text_of t) text) ≡ text_of t
   used-text text = take-append_seam (text_of t) _
 
-  pub used-ends : (ends : List ℕ) → take (length (flatten t)) (over (endsOf t) ends) ≡ endsOf t
-  used-ends ends = rw (← length-lengths 0 (flatten t)) (take-append_seam (endsOf t) _)
+  pub used-ends : (ends : List ℕ) → take (length (flatten t)) (over (ends_of t) ends) ≡ ends_of t
+  used-ends ends = rw (← length-lengths 0 (flatten t)) (take-append_seam (ends_of t) _)
 
   pub used-rows : (rows : List ℕ) → take (length t) (over (rows_of t) rows) ≡ rows_of t
   used-rows rows = rw (← length-lengths 0 t) (take-append_seam (rows_of t) _)
@@ -136,7 +136,7 @@ read_table {b} {sum} {text} {ends} {rows} (ReadOutcome.filled {t} h k) e =
       table = t;
       accepted = h;
       table_is = rw (used-text t text, used-ends t ends, used-rows t rows) (table-back t);
-      formed = rw (used-text t text, used-ends t ends, used-rows t rows) (table-well-formed t (reading-can-hold h.reading).some-field);
+      formed = rw (used-text t text, used-ends t ends, used-rows t rows) (table-well-formed t (reading-can-hold h.reading).some_field);
     }
 
 -- Text of the file's length, ends of one more and rows of the file's length are always enough: then the read is not refused for lack of room.
@@ -145,4 +145,4 @@ pub room-enough :
     → Accepted b sum f t r → length f ≤ length text → length f + 1 ≤ length ends → length f ≤ length rows → Room t text ends rows
 room-enough h i j k =
     let w = sizes h.reading in
-    record { for-text = omega (arith, w.text); for-ends = omega (arith, w.ends); for-rows = omega (arith, w.rows) }
+    record { for_text = omega (arith, w.text); for_ends = omega (arith, w.ends); for_rows = omega (arith, w.rows) }

@@ -4,41 +4,41 @@ use mathlib.Core.Path.{◌≡◌, refl, sym, subst}
 use mathlib.Core.List.{List, flatten}
 use lib.ListN.{length}
 use Rattle.format.specs.declared.Answer.{Answer}
-use Rattle.format.specs.Answer.{refusedBy}
+use Rattle.format.specs.Answer.{refused_by}
 use Rattle.format.specs.Table.{Bytes, Table}
 use Rattle.format.specs.Dialect.{dialect}
 use Rattle.format.specs.Place.{nowhere}
 use Rattle.format.specs.Reading.{Accepted}
-use Rattle.format.specs.Memory.{text_of, endsOf, rows_of}
+use Rattle.format.specs.Memory.{text_of, ends_of, rows_of}
 use Rattle.steps.proofs.Verdicts.{reading-taken}
 use Rattle.format.proofs.Memory.{length-lengths}
 use Rattle.pieces.specs.Answers.{Answers, accepted, refused}
 use Rattle.pieces.proofs.Stands.{Takes, takes}
-use Rattle.fill.specs.Fill.{textIn, endsIn, rowsIn}
+use Rattle.fill.specs.Fill.{text_read, ends_read, rows_read}
 use Rattle.format.specs.Filling.{over}
-use Rattle.reader.specs.Read.{NoRoom, no_text, no-ends, no_rows, ReadOutcome}
+use Rattle.reader.specs.Read.{NoRoom, no_text, no_ends, no_rows, ReadOutcome}
 use Rattle.fill.proofs.Flow.{filled}
 
 -- what the second walk has to write is the table
 pub record Walked (b sum : ℕ) (f : Bytes) (t : Table) : Type 0 where
-  pub text-is : textIn (dialect b sum) f ≡ text_of t
-  pub ends_is : endsIn (dialect b sum) f ≡ endsOf t
-  pub rows_is : rowsIn (dialect b sum) f ≡ rows_of t
+  pub text_is : text_read (dialect b sum) f ≡ text_of t
+  pub ends_is : ends_read (dialect b sum) f ≡ ends_of t
+  pub rows_is : rows_read (dialect b sum) f ≡ rows_of t
 
 pub walked : {b sum : ℕ} {f : Bytes} {t : Table} {r : ℕ} → Accepted b sum f t r → Walked b sum f t
 walked {b} {sum} {f} {t} a =
     let (m, l, e) = reading-taken (dialect b sum) a.reading in
     let (x, y, z) = filled (dialect b sum) f t m l e in
-    record { text-is = x; ends_is = y; rows_is = z }
+    record { text_is = x; ends_is = y; rows_is = z }
 
 -- the second walk has room
 pub has_room :
     {b sum : ℕ} {f : Bytes} {a : Answer} {x y z : ℕ}
     → Takes b sum f a → a.totals.text ≤ x → a.totals.fields.0 ≤ y → a.totals.records ≤ z
-    → (length (textIn (dialect b sum) f) ≤ x) × (length (endsIn (dialect b sum) f) ≤ y) × (length (rowsIn (dialect b sum) f) ≤ z)
+    → (length (text_read (dialect b sum) f) ≤ x) × (length (ends_read (dialect b sum) f) ≤ y) × (length (rows_read (dialect b sum) f) ≤ z)
 has_room (takes {t} h) i j k =
     let w = walked h in
-    (rw w.text-is i, rw (w.ends_is, length-lengths 0 (flatten t)) j, rw (w.rows_is, length-lengths 0 t) k)
+    (rw w.text_is i, rw (w.ends_is, length-lengths 0 (flatten t)) j, rw (w.rows_is, length-lengths 0 t) k)
 
 -- from the check's answer and the tests of room to the outcome
 module _ {b sum : ℕ} {f text : Bytes} {ends rows : List ℕ} where
@@ -47,32 +47,32 @@ module _ {b sum : ℕ} {f text : Bytes} {ends rows : List ℕ} where
   declines (accepted h) n = absurd (n refl)
   declines (refused h) n = ReadOutcome.refused h
 
-  lacks : {t : Table} {r n : ℕ} {a : Answer} → Accepted b sum f t r → NoRoom t text ends rows n → a ≡ refusedBy n nowhere
+  lacks : {t : Table} {r n : ℕ} {a : Answer} → Accepted b sum f t r → NoRoom t text ends rows n → a ≡ refused_by n nowhere
       → ReadOutcome b sum f text ends rows a text ends rows
   lacks h k e = subst (λ (a : Answer). ReadOutcome b sum f text ends rows a text ends rows) (sym e) (ReadOutcome.no_room h k)
 
   module _ {a' : Answer} where
     pub lacks-text :
-        {a : Answer} → Takes b sum f a → length text < a.totals.text → a' ≡ refusedBy 11 nowhere
+        {a : Answer} → Takes b sum f a → length text < a.totals.text → a' ≡ refused_by 11 nowhere
         → ReadOutcome b sum f text ends rows a' text ends rows
     lacks-text (takes h) k = lacks h (no_text k)
 
     pub lacks-ends :
-        {a : Answer} → Takes b sum f a → a.totals.text ≤ length text → length ends < a.totals.fields.0 → a' ≡ refusedBy 12 nowhere
+        {a : Answer} → Takes b sum f a → a.totals.text ≤ length text → length ends < a.totals.fields.0 → a' ≡ refused_by 12 nowhere
         → ReadOutcome b sum f text ends rows a' text ends rows
-    lacks-ends (takes h) i k = lacks h (no-ends i k)
+    lacks-ends (takes h) i k = lacks h (no_ends i k)
 
     pub lacks-rows :
         {a : Answer} → Takes b sum f a → a.totals.text ≤ length text → a.totals.fields.0 ≤ length ends → length rows < a.totals.records
-        → a' ≡ refusedBy 13 nowhere → ReadOutcome b sum f text ends rows a' text ends rows
+        → a' ≡ refused_by 13 nowhere → ReadOutcome b sum f text ends rows a' text ends rows
     lacks-rows (takes h) i j k = lacks h (no_rows i j k)
 
   -- what the second walk has written is the outcome
   pub fills :
       {a : Answer} {text' : Bytes} {ends' rows' : List ℕ}
       → Takes b sum f a → a.totals.text ≤ length text → a.totals.fields.0 ≤ length ends → a.totals.records ≤ length rows
-      → text' ≡ over (textIn (dialect b sum) f) text → ends' ≡ over (endsIn (dialect b sum) f) ends
-      → rows' ≡ over (rowsIn (dialect b sum) f) rows → ReadOutcome b sum f text ends rows a text' ends' rows'
+      → text' ≡ over (text_read (dialect b sum) f) text → ends' ≡ over (ends_read (dialect b sum) f) ends
+      → rows' ≡ over (rows_read (dialect b sum) f) rows → ReadOutcome b sum f text ends rows a text' ends' rows'
   fills (takes h) i j k x y z =
       let w = walked h in
-      rw (x, y, z, w.text-is, w.ends_is, w.rows_is) (ReadOutcome.filled h (record { for-text = i; for-ends = j; for-rows = k }))
+      rw (x, y, z, w.text_is, w.ends_is, w.rows_is) (ReadOutcome.filled h (record { for_text = i; for_ends = j; for_rows = k }))

@@ -7,8 +7,8 @@ ghost use Rattle.format.specs.Dialect.{dialect};
 ghost use Rattle.format.specs.Filling.{over};
 ghost use Rattle.format.specs.Memory.{largest32};
 ghost use Rattle.format.specs.Place.{place, nowhere};
-ghost use Rattle.format.specs.Answer.{refusedBy};
-ghost use Rattle.fill.specs.Fill.{textIn, endsIn, rowsIn};
+ghost use Rattle.format.specs.Answer.{refused_by};
+ghost use Rattle.fill.specs.Fill.{text_read, ends_read, rows_read};
 ghost use Rattle.pieces.specs.Answers.{Answers};
 ghost use Rattle.reader.specs.Read.{ReadOutcome};
 
@@ -69,7 +69,7 @@ fn read_accepted(
 
 // The refusal of a buffer that is too small, which names no place.
 fn no_room(n: u8) -> Answer
-    ensures { result ≡ refusedBy n nowhere }
+    ensures { result ≡ refused_by n nowhere }
 {
     pieces::refused_by(n, places::nowhere())
 }
@@ -84,13 +84,13 @@ fn write_table(
     ends: &mut [u32],
     rows: &mut [u32],
 )
-    requires file_len_bound { (length (textIn (dialect delimiter leniencies) file.now) ≤ largest32) × (length (endsIn (dialect delimiter leniencies) file.now) ≤ largest32) }
-    requires file_in_bounds { length (textIn (dialect delimiter leniencies) file.now) ≤ length text.old }
-    requires file_in_bounds_2 { length (endsIn (dialect delimiter leniencies) file.now) ≤ length ends.old }
-    requires file_in_bounds_3 { length (rowsIn (dialect delimiter leniencies) file.now) ≤ length rows.old }
-    ensures text_after { text.new ≡ over (textIn (dialect delimiter leniencies) file.now) text.old }
-    ensures ends_after { ends.new ≡ over (endsIn (dialect delimiter leniencies) file.now) ends.old }
-    ensures rows_after { rows.new ≡ over (rowsIn (dialect delimiter leniencies) file.now) rows.old }
+    requires file_len_bound { (length (text_read (dialect delimiter leniencies) file.now) ≤ largest32) × (length (ends_read (dialect delimiter leniencies) file.now) ≤ largest32) }
+    requires file_in_bounds { length (text_read (dialect delimiter leniencies) file.now) ≤ length text.old }
+    requires file_in_bounds_2 { length (ends_read (dialect delimiter leniencies) file.now) ≤ length ends.old }
+    requires file_in_bounds_3 { length (rows_read (dialect delimiter leniencies) file.now) ≤ length rows.old }
+    ensures text_after { text.new ≡ over (text_read (dialect delimiter leniencies) file.now) text.old }
+    ensures ends_after { ends.new ≡ over (ends_read (dialect delimiter leniencies) file.now) ends.old }
+    ensures rows_after { rows.new ≡ over (rows_read (dialect delimiter leniencies) file.now) rows.old }
 {
     let head = Head {
         at: 0,

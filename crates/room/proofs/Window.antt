@@ -8,23 +8,23 @@ use lib.Dec.{eqb}
 use lib.ListN.{length, replicate, length-append}
 use borrow.Author.Tests.{le-leb, lt-leb, eqb-false}
 use Rattle.format.specs.Table.{Bytes}
-use Rattle.format.specs.House.{contentLimit}
-use Rattle.steps.specs.Steps.{Form, start, nothing, put, hold, drop, field_end, record-end, Act, refuse, go}
-use Rattle.steps.specs.Numbers.{formNumber}
+use Rattle.format.specs.House.{content_limit}
+use Rattle.steps.specs.Steps.{Form, start, nothing, put, hold, drop, field_end, record_end, Act, refuse, go}
+use Rattle.steps.specs.Numbers.{form_number}
 use Rattle.steps.proofs.Rules.{form-back}
 use Rattle.steps.proofs.Acts.{Proper, step-proper}
-use Rattle.places.specs.Counters.{counterLimit, plus}
+use Rattle.places.specs.Counters.{counter_limit, plus}
 use Rattle.state.specs.declared.Check.{Check}
-use Rattle.state.specs.Check.{fed, fedAll}
+use Rattle.state.specs.Check.{fed, fed_all}
 use Rattle.state.proofs.Moves.{Keeps, fed-none, fed-cons, fed-keeps}
-use Rattle.state.proofs.Byte.{Within, FieldEnds, RecordEnds, Does, actOf, fed-does}
-use Rattle.fill.specs.Fill.{textBy, endsBy, rows_by, textLeft, endsLeft, rowsLeft}
-use Rattle.fill.proofs.Left.{text-none, text-byte, ends-none, ends-byte, rows_none, rows-byte}
+use Rattle.state.proofs.Byte.{Within, FieldEnds, RecordEnds, Does, act_of, fed-does}
+use Rattle.fill.specs.Fill.{text_by, ends_by, rows_by, text_left, ends_left, rows_left}
+use Rattle.fill.proofs.Left.{text-none, text_byte, ends-none, ends-byte, rows_none, rows-byte}
 use Rattle.fill.proofs.Part.{ends-any, rows-any}
 use Rattle.output.specs.Out.{Out, nothing as silence, then}
 use Rattle.output.specs.Stream.{shown, putsText, endsField, byteLeft, due, Room, left, Called, onward, taking, streamed}
 use Rattle.taking.specs.Walk.{adding}
-use Rattle.room.specs.Room.{dialectOf, putOut}
+use Rattle.room.specs.Room.{dialect_of, put_out}
 use Rattle.taking.proofs.Growing.{adds_none}
 use Rattle.output.proofs.Bytewise.{shown-open, parts-fit, streamed-taken}
 use Rattle.output.proofs.Step.{clear, due-quiet, due-text, due-field, due-record}
@@ -33,8 +33,8 @@ use Rattle.output.proofs.Meaning.{shown-first}
 
 -- no counter stops within n bytes
 pub record Small (c : Check) (n : ℕ) : Type 0 where
-  pub text : c.counts.text + c.field.content + c.field.held + n ≤ counterLimit
-  pub fields : c.counts.fields.0 + n ≤ counterLimit
+  pub text : c.counts.text + c.field.content + c.field.held + n ≤ counter_limit
+  pub fields : c.counts.fields.0 + n ≤ counter_limit
 
 -- room for what is put out
 pub record Holds (o : Out) (r : Room) : Type 0 where
@@ -52,16 +52,16 @@ none_left h c k l = omega arith
 
 -- one byte
 module _ (c : Check) (b : ℕ) (g : Bytes) (n : ℕ) (few : Small c (suc n)) where
-  abbrev actOut : Act → Out
-  actOut a =
+  abbrev act_out : Act → Out
+  act_out a =
       record {
-        text = textBy a c.field.held b (λ j i. textLeft (dialectOf c) g j i);
-        ends = endsBy a c.field.held (c.counts.text + c.field.content) (λ j i m v. endsLeft false (dialectOf c) g j i m v);
-        rows = rows_by a c.counts.fields.0 (λ j m v. rowsLeft false (dialectOf c) g j m v);
+        text = text_by a c.field.held b (λ j i. text_left (dialect_of c) g j i);
+        ends = ends_by a c.field.held (c.counts.text + c.field.content) (λ j i m v. ends_left false (dialect_of c) g j i m v);
+        rows = rows_by a c.counts.fields.0 (λ j m v. rows_left false (dialect_of c) g j m v);
       }
 
   record Next (o : Out) (e : Check) : Type 0 where
-    is : o ≡ then (due 0 c b e) (putOut e g)
+    is : o ≡ then (due 0 c b e) (put_out e g)
     small : Small e n
 
   not-refused : {A : Type 0} {r : ℕ} (m : ℕ) → eqb m 0 ≡ false → r ≡ m → r ≡ 0 → A
@@ -71,11 +71,11 @@ module _ (c : Check) (b : ℕ) (g : Bytes) (n : ℕ) (few : Small c (suc n)) whe
   no-put e l = ap not (le-leb e.field.content c.field.content l)
 
   -- nothing comes out
-  quiet : (j : Form) (h : ℕ) (e : Check) → Keeps c e → Within c (formNumber j) c.field.content h e → eqb (formNumber j) (formNumber start) ≡ false → h ≤ c.field.held + 1
+  quiet : (j : Form) (h : ℕ) (e : Check) → Keeps c e → Within c (form_number j) c.field.content h e → eqb (form_number j) (form_number start) ≡ false → h ≤ c.field.held + 1
       → Next (record {
-        text = textLeft (dialectOf c) g j h;
-        ends = endsLeft false (dialectOf c) g j h (c.counts.text + c.field.content) true;
-        rows = rowsLeft false (dialectOf c) g j c.counts.fields.0 true;
+        text = text_left (dialect_of c) g j h;
+        ends = ends_left false (dialect_of c) g j h (c.counts.text + c.field.content) true;
+        rows = rows_left false (dialect_of c) g j c.counts.fields.0 true;
       }) e
   quiet j h e k v p l =
       let y : putsText c e ≡ false = no-put e (rw v.content (omega arith)) in
@@ -87,7 +87,7 @@ module _ (c : Check) (b : ℕ) (g : Bytes) (n : ℕ) (few : Small c (suc n)) whe
         small = record { text = rw (v.content, v.held, v.counts) (omega arith); fields = rw v.counts (omega arith) };
       }
 
-  by-act : (a : Act) (e : Check) → Keeps c e → Proper a → Does c a e → e.refusal ≡ 0 → e.field.content ≤ contentLimit → Next (actOut a) e
+  by-act : (a : Act) (e : Check) → Keeps c e → Proper a → Does c a e → e.refusal ≡ 0 → e.field.content ≤ content_limit → Next (act_out a) e
   by-act (refuse m) e k p v z l = not-refused m p v z
   by-act (go j nothing) e k p v z l = quiet j c.field.held e k v p (omega arith)
   by-act (go j drop) e k p v z l = quiet j c.field.held e k v p (omega arith)
@@ -102,17 +102,17 @@ module _ (c : Check) (b : ℕ) (g : Bytes) (n : ℕ) (few : Small c (suc n)) whe
       let q : e.field.content ≡ c.field.content + c.field.held + 1 = v.content ∙ i in
       let y : putsText c e ≡ true = ap not (lt-leb e.field.content c.field.content (omega arith)) in
       let x : endsField e ≡ false = rw v.form p in
-      let n₀ : c.field.content + c.field.held + 1 ≤ contentLimit = rw q at l in
-      let w = blanks-all c.field.held c.field.content contentLimit n₀ in
-      let u : byteLeft c ≡ true = le-leb (c.field.content + c.field.held + 1) contentLimit n₀ in
+      let n₀ : c.field.content + c.field.held + 1 ≤ content_limit = rw q at l in
+      let w = blanks-all c.field.held c.field.content content_limit n₀ in
+      let u : byteLeft c ≡ true = le-leb (c.field.content + c.field.held + 1) content_limit n₀ in
       let m : c.counts.text + c.field.content + c.field.held + 1 ≡ c.counts.text + (c.field.content + c.field.held + 1) = omega arith in
       let o : due 0 c b e ≡ record { text = replicate c.field.held 0x20 ++ (b ∷ []); ends = []; rows = [] } = rw (due-text 0 c b e y x, w, u) in
-      let t = textLeft (dialectOf c) g j 0 in
+      let t = text_left (dialect_of c) g j 0 in
       record {
         is = rw (o, k.delimiter, k.leniencies, v.form, q, v.held, v.counts, form-back j, m) (λ i. record {
           text = sym (append_assoc (replicate c.field.held 0x20) (b ∷ []) t) i;
-          ends = endsLeft false (dialectOf c) g j 0 (c.counts.text + (c.field.content + c.field.held + 1)) true;
-          rows = rowsLeft false (dialectOf c) g j c.counts.fields.0 true;
+          ends = ends_left false (dialect_of c) g j 0 (c.counts.text + (c.field.content + c.field.held + 1)) true;
+          rows = rows_left false (dialect_of c) g j c.counts.fields.0 true;
         });
         small = record { text = rw (q, v.held, v.counts) (omega arith); fields = rw v.counts (omega arith) };
       }
@@ -131,9 +131,9 @@ module _ (c : Check) (b : ℕ) (g : Bytes) (n : ℕ) (few : Small c (suc n)) whe
         is = rw (due-field 0 c b e y x u, k.delimiter, k.leniencies, o.form, o.content, o.held, t, f, form-back start, m);
         small = record { text = rw (o.content, o.held, t) (omega arith); fields = rw f (omega arith) };
       }
-  by-act (go j record-end) e k p (RecordEnds.long l v) z i = not-refused 9 refl v z
-  by-act (go j record-end) e k p (RecordEnds.uneven l y v) z i = not-refused 10 refl v z
-  by-act (go j record-end) e k p (RecordEnds.ends v) z i =
+  by-act (go j record_end) e k p (RecordEnds.long l v) z i = not-refused 9 refl v z
+  by-act (go j record_end) e k p (RecordEnds.uneven l y v) z i = not-refused 10 refl v z
+  by-act (go j record_end) e k p (RecordEnds.ends v) z i =
       let s₁ = few.text in
       let s₂ = few.fields in
       let o = v.over in
@@ -146,26 +146,26 @@ module _ (c : Check) (b : ℕ) (g : Bytes) (n : ℕ) (few : Small c (suc n)) whe
       record {
         is = rw (due-record 0 c b e y x u, k.delimiter, k.leniencies, o.form, o.content, o.held, t, f, form-back start, m)
             (λ i. record {
-              text = textLeft (dialectOf c) g start 0;
-              ends = (c.counts.text + c.field.content) ∷ ends-any (dialectOf c) g start 0 (c.counts.text + c.field.content) false true i;
-              rows = (c.counts.fields.0 + 1) ∷ rows-any (dialectOf c) g start (c.counts.fields.0 + 1) false true i;
+              text = text_left (dialect_of c) g start 0;
+              ends = (c.counts.text + c.field.content) ∷ ends-any (dialect_of c) g start 0 (c.counts.text + c.field.content) false true i;
+              rows = (c.counts.fields.0 + 1) ∷ rows-any (dialect_of c) g start (c.counts.fields.0 + 1) false true i;
             });
         small = record { text = rw (o.content, o.held, t) (omega arith); fields = rw f (omega arith) };
       }
 
-  byte_next : c.refusal ≡ 0 → (fed c b).refusal ≡ 0 → (fed c b).field.content ≤ contentLimit → Next (putOut c (b ∷ g)) (fed c b)
+  byte_next : c.refusal ≡ 0 → (fed c b).refusal ≡ 0 → (fed c b).field.content ≤ content_limit → Next (put_out c (b ∷ g)) (fed c b)
   byte_next z z' l =
-      rw (text-byte (dialectOf c) b g, ends-byte false (dialectOf c) b g, rows-byte false (dialectOf c) b g)
-      (by-act (actOf c b) (fed c b) (fed-keeps c b) (step-proper _ _ _) (fed-does c b z) z' l)
+      rw (text_byte (dialect_of c) b g, ends-byte false (dialect_of c) b g, rows-byte false (dialect_of c) b g)
+      (by-act (act_of c b) (fed c b) (fed-keeps c b) (step-proper _ _ _) (fed-does c b z) z' l)
 
 -- Within a field content only grows, and a field over the limit does not end without a refusal: so what fits at the end has fitted before.
-fits-before : (c : Check) (b : ℕ) → c.refusal ≡ 0 → (fed c b).refusal ≡ 0 → (fed c b).field.content ≤ contentLimit → c.field.content ≤ contentLimit
-fits-before c b z z' l = by (actOf c b) (step-proper _ _ _) (fed-does c b z)
+fits-before : (c : Check) (b : ℕ) → c.refusal ≡ 0 → (fed c b).refusal ≡ 0 → (fed c b).field.content ≤ content_limit → c.field.content ≤ content_limit
+fits-before c b z z' l = by (act_of c b) (step-proper _ _ _) (fed-does c b z)
   where
     not-refused : {A : Type 0} (m : ℕ) → eqb m 0 ≡ false → (fed c b).refusal ≡ m → A
     not-refused m p q = absurd (eqb-false m 0 p (sym q ∙ z'))
 
-    by : (a : Act) → Proper a → Does c a (fed c b) → c.field.content ≤ contentLimit
+    by : (a : Act) → Proper a → Does c a (fed c b) → c.field.content ≤ content_limit
     by (refuse m) p v = not-refused m p v
     by (go j nothing) p v = let e = v.content in omega arith
     by (go j put) p v = let e = v.content in omega arith
@@ -173,11 +173,11 @@ fits-before c b z z' l = by (actOf c b) (step-proper _ _ _) (fed-does c b z)
     by (go j drop) p v = let e = v.content in omega arith
     by (go j field_end) p (FieldEnds.ends v) = v.over.short
     by (go j field_end) p (FieldEnds.long i v) = not-refused 9 refl v
-    by (go j record-end) p (RecordEnds.ends v) = v.over.short
-    by (go j record-end) p (RecordEnds.long i v) = not-refused 9 refl v
-    by (go j record-end) p (RecordEnds.uneven i y v) = not-refused 10 refl v
+    by (go j record_end) p (RecordEnds.ends v) = v.over.short
+    by (go j record_end) p (RecordEnds.long i v) = not-refused 9 refl v
+    by (go j record_end) p (RecordEnds.uneven i y v) = not-refused 10 refl v
 
-fits-first : (g : Bytes) (c : Check) → shown (fedAll c g) ≡ false → (fedAll c g).field.content ≤ contentLimit → c.field.content ≤ contentLimit
+fits-first : (g : Bytes) (c : Check) → shown (fed_all c g) ≡ false → (fed_all c g).field.content ≤ content_limit → c.field.content ≤ content_limit
 fits-first [] c s l = rw (fed-none c) at l
 fits-first (b ∷ g) c s l =
     let s' = rw (fed-cons c b g) at s in
@@ -234,11 +234,11 @@ adds k o p x =
 
 -- Bytes that show no refusal and bring no content over the limit, with room for what they put out, are taken, whatever comes behind them.
 pub windowed :
-    (g f : Bytes) (c : Check) (r : Room) → Small c (length g) → shown (fedAll c g) ≡ false → (fedAll c g).field.content ≤ contentLimit → Holds (putOut c g) r
-    → streamed (onward c) (g ++ f) r ≡ adding (length g) (putOut c g) (streamed (onward (fedAll c g)) f (left (putOut c g) r))
+    (g f : Bytes) (c : Check) (r : Room) → Small c (length g) → shown (fed_all c g) ≡ false → (fed_all c g).field.content ≤ content_limit → Holds (put_out c g) r
+    → streamed (onward c) (g ++ f) r ≡ adding (length g) (put_out c g) (streamed (onward (fed_all c g)) f (left (put_out c g) r))
 windowed [] f c r m s l h =
-    let e : putOut c [] ≡ silence = rw (text-none (dialectOf c), ends-none false (dialectOf c), rows_none false (dialectOf c)) in
-    let q : left (putOut c []) r ≡ r = ap (λ (o : Out). left o r) e ∙ left-none r in
+    let e : put_out c [] ≡ silence = rw (text-none (dialect_of c), ends-none false (dialect_of c), rows_none false (dialect_of c)) in
+    let q : left (put_out c []) r ≡ r = ap (λ (o : Out). left o r) e ∙ left-none r in
     adds_none (streamed (onward c) f r) ∙ λ i. adding 0 (sym e i) (streamed (onward (sym (fed-none c) i)) f (sym q i))
 windowed (b ∷ g) f c r m s l h =
     let s' = rw (fed-cons c b g) at s in
@@ -247,7 +247,7 @@ windowed (b ∷ g) f c r m s l h =
     let s₁ = shown-first g (fed c b) s' in
     let n = byte_next c b g (length g) m (clear c s₀).refusal (clear (fed c b) s₁).refusal (fits-first g (fed c b) s' l') in
     let o = due 0 c b (fed c b) in
-    let p = putOut (fed c b) g in
+    let p = put_out (fed c b) g in
     let e = n.is in
     let k = holds_parts o p r (rw e at h) in
     let x = windowed g f (fed c b) (left o r) n.small s' l' k.1 in
@@ -257,13 +257,13 @@ windowed (b ∷ g) f c r m s l h =
     ∙ λ i. adding (suc (length g)) (sym e i) (streamed (onward (sym (fed-cons c b g) i)) f ((left-then o p r ∙ ap (λ (q : Out). left q r) (sym e)) i))))
 
 -- Once content is over the limit nothing comes out: its field does not end without a refusal.
-module _ (c : Check) (b : ℕ) (z : c.refusal ≡ 0) (z' : (fed c b).refusal ≡ 0) (l : contentLimit < c.field.content) where
+module _ (c : Check) (b : ℕ) (z : c.refusal ≡ 0) (z' : (fed c b).refusal ≡ 0) (l : content_limit < c.field.content) where
   record Beyond : Type 0 where
     out : due 0 c b (fed c b) ≡ silence
-    more : contentLimit < (fed c b).field.content
+    more : content_limit < (fed c b).field.content
 
   -- inside the field, whether or not the byte is content
-  stays : (j : Form) (m h : ℕ) → contentLimit < m → Within c (formNumber j) m h (fed c b) → eqb (formNumber j) (formNumber start) ≡ false → Beyond
+  stays : (j : Form) (m h : ℕ) → content_limit < m → Within c (form_number j) m h (fed c b) → eqb (form_number j) (form_number start) ≡ false → Beyond
   stays j m h i v p = record { out = by (putsText c (fed c b)) refl; more = rw v.content i }
     where
       x : endsField (fed c b) ≡ false
@@ -271,13 +271,13 @@ module _ (c : Check) (b : ℕ) (z : c.refusal ≡ 0) (z' : (fed c b).refusal ≡
 
       by : (y : Bool) → putsText c (fed c b) ≡ y → due 0 c b (fed c b) ≡ silence
       by true q =
-          let w : min (c.field.held - 0) (contentLimit - (c.field.content + 0)) ≡ 0 = none_left c.field.held c.field.content contentLimit l in
-          let u : byteLeft c ≡ false = lt-leb (c.field.content + c.field.held + 1) contentLimit (omega arith) in
+          let w : min (c.field.held - 0) (content_limit - (c.field.content + 0)) ≡ 0 = none_left c.field.held c.field.content content_limit l in
+          let u : byteLeft c ≡ false = lt-leb (c.field.content + c.field.held + 1) content_limit (omega arith) in
           due-text 0 c b (fed c b) q x ∙ rw (w, u)
       by false q = due-quiet 0 c b (fed c b) q x
 
   byte-beyond : Beyond
-  byte-beyond = by (actOf c b) (step-proper _ _ _) (fed-does c b z)
+  byte-beyond = by (act_of c b) (step-proper _ _ _) (fed-does c b z)
     where
       not-refused : {A : Type 0} (m : ℕ) → eqb m 0 ≡ false → (fed c b).refusal ≡ m → A
       not-refused m p q = absurd (eqb-false m 0 p (sym q ∙ z'))
@@ -290,13 +290,13 @@ module _ (c : Check) (b : ℕ) (z : c.refusal ≡ 0) (z' : (fed c b).refusal ≡
       by (go j drop) p v = stays j _ _ l v p
       by (go j field_end) p (FieldEnds.ends v) = let i = v.over.short in absurd (omega arith)
       by (go j field_end) p (FieldEnds.long i v) = not-refused 9 refl v
-      by (go j record-end) p (RecordEnds.ends v) = let i = v.over.short in absurd (omega arith)
-      by (go j record-end) p (RecordEnds.long i v) = not-refused 9 refl v
-      by (go j record-end) p (RecordEnds.uneven i y v) = not-refused 10 refl v
+      by (go j record_end) p (RecordEnds.ends v) = let i = v.over.short in absurd (omega arith)
+      by (go j record_end) p (RecordEnds.long i v) = not-refused 9 refl v
+      by (go j record_end) p (RecordEnds.uneven i y v) = not-refused 10 refl v
 
 pub beyond :
-    (g f : Bytes) (c : Check) (r : Room) → contentLimit < c.field.content → shown (fedAll c g) ≡ false
-    → streamed (onward c) (g ++ f) r ≡ adding (length g) silence (streamed (onward (fedAll c g)) f r)
+    (g f : Bytes) (c : Check) (r : Room) → content_limit < c.field.content → shown (fed_all c g) ≡ false
+    → streamed (onward c) (g ++ f) r ≡ adding (length g) silence (streamed (onward (fed_all c g)) f r)
 beyond [] f c r l s = adds_none (streamed (onward c) f r) ∙ λ i. adding 0 silence (streamed (onward (sym (fed-none c) i)) f r)
 beyond (b ∷ g) f c r l s =
     let s' = rw (fed-cons c b g) at s in

@@ -1,50 +1,50 @@
 -- How many bytes of a piece can be taken at once, and what bytes put out.
 use Rattle.std.specs.Prelude.{ℕ, ◌+◌, ◌-◌, ◌≤◌, min, ◌≡◌, true, false, cond, not, ◌||◌, List, eqb, ltb, length}
 use Rattle.format.specs.Table.{Bytes}
-use Rattle.format.specs.House.{contentLimit, fileLimit}
+use Rattle.format.specs.House.{content_limit, file_limit}
 use Rattle.format.specs.Dialect.{Dialect, dialect}
 use Rattle.steps.specs.Numbers.{form_of}
-use Rattle.places.specs.Counters.{counterLimit}
-use Rattle.fill.specs.Fill.{textLeft, endsLeft, rowsLeft}
+use Rattle.places.specs.Counters.{counter_limit}
+use Rattle.fill.specs.Fill.{text_left, ends_left, rows_left}
 use Rattle.state.specs.declared.Check.{Check}
 use Rattle.output.specs.Out.{Out}
 use Rattle.output.specs.Stream.{onward}
 use Rattle.taking.specs.declared.Flow.{Flow}
-use Rattle.taking.specs.Walk.{Inside, insideBy}
+use Rattle.taking.specs.Walk.{Inside, inside_by}
 
-abbrev pub dialectOf : Check → Dialect
-dialectOf c = dialect c.delimiter c.leniencies
+abbrev pub dialect_of : Check → Dialect
+dialect_of c = dialect c.delimiter c.leniencies
 
 -- what the bytes g put out behind c
-abbrev pub putOut : Check → Bytes → Out
-putOut c g =
+abbrev pub put_out : Check → Bytes → Out
+put_out c g =
     record {
-      text = textLeft (dialectOf c) g (form_of c.form) c.field.held;
-      ends = endsLeft false (dialectOf c) g (form_of c.form) c.field.held (c.counts.text + c.field.content) true;
-      rows = rowsLeft false (dialectOf c) g (form_of c.form) c.counts.fields.0 true;
+      text = text_left (dialect_of c) g (form_of c.form) c.field.held;
+      ends = ends_left false (dialect_of c) g (form_of c.form) c.field.held (c.counts.text + c.field.content) true;
+      rows = rows_left false (dialect_of c) g (form_of c.form) c.counts.fields.0 true;
     }
 
 -- the text that the check has counted, with the content of the field in work; and the fields
 abbrev pub counted : Flow → ℕ
 counted p = p.state.check.counts.text + p.state.check.field.content
 
-abbrev pub fieldsCounted : Flow → ℕ
-fieldsCounted p = p.state.check.counts.fields.0
+abbrev pub fields_counted : Flow → ℕ
+fields_counted p = p.state.check.counts.fields.0
 
 -- how many bytes have room for whatever they put out, in buffers of such lengths, and let no counter stop: none where more has come out of the call than the check has counted
 unfoldable pub room_for : Flow → ℕ → ℕ → ℕ → ℕ
 room_for p text ends rows =
-    cond (ltb (counted p) p.text || ltb (fieldsCounted p) p.ends) 0
+    cond (ltb (counted p) p.text || ltb (fields_counted p) p.ends) 0
     (min
-    (min (min (min (text - p.text - p.state.check.field.held) (fileLimit - (counted p + p.state.check.field.held))) (ends - p.ends)) (rows - p.rows))
-    (fileLimit - fieldsCounted p))
+    (min (min (min (text - p.text - p.state.check.field.held) (file_limit - (counted p + p.state.check.field.held))) (ends - p.ends)) (rows - p.rows))
+    (file_limit - fields_counted p))
 
 -- how many bytes can be taken at once, no more than so many: none from outside, with blanks out early, or behind a close; content over the limit needs no room
 unfoldable pub part_of : Flow → ℕ → ℕ → ℕ → ℕ → ℕ → ℕ
 part_of p most piece text ends rows =
-    cond (insideBy p piece text ends rows)
+    cond (inside_by p piece text ends rows)
     (cond (not (eqb p.state.early 0) || not (eqb p.state.closed 0)) 0
-    (cond (ltb contentLimit p.state.check.field.content) (min most (piece - p.taken)) (min (min most (piece - p.taken)) (room_for p text ends rows))))
+    (cond (ltb content_limit p.state.check.field.content) (min most (piece - p.taken)) (min (min most (piece - p.taken)) (room_for p text ends rows))))
     0
 
 -- between two bytes of a stream that is not over, with no blank out early
@@ -53,22 +53,22 @@ Plain p = p.state ≡ onward p.state.check
 
 -- n bytes more have room, let no counter stop, and no more has come out than was counted
 pub record Roomy (p : Flow) (n text ends rows : ℕ) : Type 0 where
-  pub text-room : p.text + p.state.check.field.held + n ≤ text
-  pub ends-room : p.ends + n ≤ ends
-  pub rows-room : p.rows + n ≤ rows
-  pub text-count : p.text ≤ counted p
-  pub field-count : p.ends ≤ fieldsCounted p
-  pub small : counted p + p.state.check.field.held + n ≤ counterLimit
-  pub few : fieldsCounted p + n ≤ counterLimit
+  pub text_room : p.text + p.state.check.field.held + n ≤ text
+  pub ends_room : p.ends + n ≤ ends
+  pub rows_room : p.rows + n ≤ rows
+  pub text_count : p.text ≤ counted p
+  pub field_count : p.ends ≤ fields_counted p
+  pub small : counted p + p.state.check.field.held + n ≤ counter_limit
+  pub few : fields_counted p + n ≤ counter_limit
 
 -- and the piece holds as many
 pub record Ample (p : Flow) (n : ℕ) (piece text : Bytes) (ends rows : List ℕ) : Type 0 where
-  pub taken-room : p.taken + n ≤ length piece
+  pub taken_room : p.taken + n ≤ length piece
   pub roomy : Roomy p n (length text) (length ends) (length rows)
 
 -- n bytes more can be taken at once; they have room for what they put out, unless content is over the limit
 pub record Passable (p : Flow) (n : ℕ) (piece text : Bytes) (ends rows : List ℕ) : Type 0 where
   pub plain : Plain p
   pub inside : Inside p piece text ends rows
-  pub taken-room : p.taken + n ≤ length piece
-  pub ample : p.state.check.field.content ≤ contentLimit → Ample p n piece text ends rows
+  pub taken_room : p.taken + n ≤ length piece
+  pub ample : p.state.check.field.content ≤ content_limit → Ample p n piece text ends rows

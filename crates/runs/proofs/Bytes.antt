@@ -8,17 +8,17 @@ use lib.Dec.{eqb, leb}
 use lib.ListN.{get_or, drop}
 use borrow.Author.Tests.{ne_eqb, leb-true, le-leb, lt-leb}
 use Rattle.format.specs.Table.{Bytes}
-use Rattle.format.specs.Dialect.{Dialect, is_wide, Class, text, blank, delimiter, quote, CR, LF, forbidden, classOf}
-use Rattle.format.proofs.Classes.{quotedClass, text-ordinary, text-range, CR-inside, printed-inside, textdata-range, Strict, strict-text, strict-comma, strict-quote, strict-CR, strict-LF, strict-other, strict-class}
-use Rattle.runs.specs.Runs.{run, isText, is_plain, isInnerClass, isInner}
+use Rattle.format.specs.Dialect.{Dialect, is_wide, Class, text, blank, delimiter, quote, CR, LF, forbidden, class_of}
+use Rattle.format.proofs.Classes.{quoted_class, text-ordinary, text-range, CR-inside, printed-inside, textdata-range, Strict, strict_text, strict_comma, strict_quote, strict_CR, strict_LF, strict_other, strict-class}
+use Rattle.runs.specs.Runs.{run, is_text, is_plain, is_inner_class, is_inner}
 use Rattle.runs.proofs.Runs.{run_holds}
 
 -- plain text
-plain-parts : (d : Dialect) (b : ℕ) → is_plain d b ≡ true → (classOf d b ≡ text) × (is_wide b ≡ false)
+plain-parts : (d : Dialect) (b : ℕ) → is_plain d b ≡ true → (class_of d b ≡ text) × (is_wide b ≡ false)
 unfolding is_plain
-plain-parts d b = go (classOf d b) (is_wide b)
+plain-parts d b = go (class_of d b) (is_wide b)
   where
-    go : (x : Class) (w : Bool) → (isText x && not w) ≡ true → (x ≡ text) × (w ≡ false)
+    go : (x : Class) (w : Bool) → (is_text x && not w) ≡ true → (x ≡ text) × (w ≡ false)
     go text false e = (refl, refl)
     go text true e = absurd (false≢true e)
     go blank w e = absurd (false≢true e)
@@ -28,7 +28,7 @@ plain-parts d b = go (classOf d b) (is_wide b)
     go LF w e = absurd (false≢true e)
     go forbidden w e = absurd (false≢true e)
 
-pub plain-class : (d : Dialect) (b : ℕ) → is_plain d b ≡ true → classOf d b ≡ text
+pub plain-class : (d : Dialect) (b : ℕ) → is_plain d b ≡ true → class_of d b ≡ text
 plain-class d b e = (plain-parts d b e).0
 
 pub plain-narrow : (d : Dialect) (b : ℕ) → is_plain d b ≡ true → is_wide b ≡ false
@@ -42,14 +42,14 @@ plain-range d b out = go (is_plain d b) refl
     go false e = refl
 
 lf-not-plain : (d : Dialect) → is_plain d 0x0A ≡ true → ⊥
-lf-not-plain d e = false≢true (sym (text-ordinary d 0x0A (plain-class d 0x0A e)).0 ∙ or-true (eqb 0x0A d.delimiterByte))
+lf-not-plain d e = false≢true (sym (text-ordinary d 0x0A (plain-class d 0x0A e)).0 ∙ or-true (eqb 0x0A d.delimiter_byte))
 
 pub plain-no-lf : (d : Dialect) (b : ℕ) → is_plain d b ≡ true → eqb b 0x0A ≡ false
 plain-no-lf d b e = ne_eqb b 0x0A (λ q. lf-not-plain d (rw q at e))
 
 -- between quotes: CR, and 0x20 to 0x7E but for the quote
-pub inner-range : (b : ℕ) → isInner b ≡ (eqb b 0x0D || ((leb 0x20 b && leb b 0x7E) && not (eqb b 0x22)))
-unfolding isInner
+pub inner-range : (b : ℕ) → is_inner b ≡ (eqb b 0x0D || ((leb 0x20 b && leb b 0x7E) && not (eqb b 0x22)))
+unfolding is_inner
 inner-range b = go (strict-class b)
   where
     outside : (x y : Bool) → leb 0x20 b ≡ x → leb b 0x7E ≡ y → (0x20 ≤ b → b ≤ 0x7E → ⊥) → false ≡ ((x && y) && not (eqb b 0x22))
@@ -57,57 +57,57 @@ inner-range b = go (strict-class b)
     outside true false p q u = refl
     outside false y p q u = refl
 
-    go : {x : Class} → Strict b x → isInnerClass x ≡ (eqb b 0x0D || ((leb 0x20 b && leb b 0x7E) && not (eqb b 0x22)))
-    go (strict-text t) =
+    go : {x : Class} → Strict b x → is_inner_class x ≡ (eqb b 0x0D || ((leb 0x20 b && leb b 0x7E) && not (eqb b 0x22)))
+    go (strict_text t) =
         let r = textdata-range t in
-        rw (le-leb 0x20 b r.low, le-leb b 0x7E r.high, ne_eqb b 0x22 r.no-quote) (sym (or-true (eqb b 0x0D)))
-    go (strict-comma q) = rw q
-    go (strict-quote q) = rw q
-    go (strict-CR q) = rw q
-    go (strict-LF q) = rw q
-    go (strict-other u v w) = rw (ne_eqb b 0x0D v) (outside (leb 0x20 b) (leb b 0x7E) refl refl u)
+        rw (le-leb 0x20 b r.low, le-leb b 0x7E r.high, ne_eqb b 0x22 r.no_quote) (sym (or-true (eqb b 0x0D)))
+    go (strict_comma q) = rw q
+    go (strict_quote q) = rw q
+    go (strict_CR q) = rw q
+    go (strict_LF q) = rw q
+    go (strict_other u v w) = rw (ne_eqb b 0x0D v) (outside (leb 0x20 b) (leb b 0x7E) refl refl u)
 
 abbrev InnerParts : ℕ → Type 0
 InnerParts b = (b ≡ 0x0D) ⊎ ((0x20 ≤ b) × (b ≤ 0x7E) × (b ≡ 0x22 → ⊥))
 
-inner-parts : (b : ℕ) → isInner b ≡ true → InnerParts b
-unfolding isInner
+inner-parts : (b : ℕ) → is_inner b ≡ true → InnerParts b
+unfolding is_inner
 inner-parts b e = go (strict-class b) e
   where
-    go : {x : Class} → Strict b x → isInnerClass x ≡ true → InnerParts b
-    go (strict-text t) e = let r = textdata-range t in inr (r.low, r.high, r.no-quote)
-    go (strict-comma q) e = inr (omega arith, omega arith, λ w. omega arith)
-    go (strict-quote q) e = absurd (false≢true e)
-    go (strict-CR q) e = inl q
-    go (strict-LF q) e = absurd (false≢true e)
-    go (strict-other u v w) e = absurd (false≢true e)
+    go : {x : Class} → Strict b x → is_inner_class x ≡ true → InnerParts b
+    go (strict_text t) e = let r = textdata-range t in inr (r.low, r.high, r.no_quote)
+    go (strict_comma q) e = inr (omega arith, omega arith, λ w. omega arith)
+    go (strict_quote q) e = absurd (false≢true e)
+    go (strict_CR q) e = inl q
+    go (strict_LF q) e = absurd (false≢true e)
+    go (strict_other u v w) e = absurd (false≢true e)
 
-pub inner-no-lf : (b : ℕ) → isInner b ≡ true → eqb b 0x0A ≡ false
+pub inner-no-lf : (b : ℕ) → is_inner b ≡ true → eqb b 0x0A ≡ false
 inner-no-lf b e = go (inner-parts b e)
   where
     go : InnerParts b → eqb b 0x0A ≡ false
     go (inl q) = ne_eqb b 0x0A (λ r. omega arith)
     go (inr q) = ne_eqb b 0x0A (λ r. omega arith)
 
-pub inner-narrow : (b : ℕ) → isInner b ≡ true → is_wide b ≡ false
+pub inner-narrow : (b : ℕ) → is_inner b ≡ true → is_wide b ≡ false
 inner-narrow b e = go (inner-parts b e)
   where
     go : InnerParts b → is_wide b ≡ false
     go (inl q) = rw (ne_eqb b 0x09 (λ r. omega arith), lt-leb 0x80 b (omega arith))
     go (inr q) = rw (ne_eqb b 0x09 (λ r. omega arith), lt-leb 0x80 b (omega arith))
 
-pub inner-inside : (d : Dialect) (b : ℕ) → isInner b ≡ true → quotedClass (classOf d b) ≡ true
+pub inner-inside : (d : Dialect) (b : ℕ) → is_inner b ≡ true → quoted_class (class_of d b) ≡ true
 inner-inside d b e = go (inner-parts b e)
   where
-    go : InnerParts b → quotedClass (classOf d b) ≡ true
+    go : InnerParts b → quoted_class (class_of d b) ≡ true
     go (inl q) = rw q (CR-inside d)
     go (inr q) = printed-inside d b q.0 q.1 q.2
 
 -- what stands in a run of plain text, and in one between quotes
-pub text-run-stands : (d : Dialect) (s : Bytes) (i k : ℕ) → k < run (is_plain d) (drop i s) → (classOf d (get_or s (i + k) 0) ≡ text) × (is_wide (get_or s (i + k) 0) ≡ false)
+pub text-run-stands : (d : Dialect) (s : Bytes) (i k : ℕ) → k < run (is_plain d) (drop i s) → (class_of d (get_or s (i + k) 0) ≡ text) × (is_wide (get_or s (i + k) 0) ≡ false)
 text-run-stands d s i k h = plain-parts d (get_or s (i + k) 0) (run_holds (is_plain d) s i k h)
 
-pub inner-run-stands : (s : Bytes) (i k : ℕ) → k < run isInner (drop i s) → (is_wide (get_or s (i + k) 0) ≡ false) × (eqb (get_or s (i + k) 0) 0x0A ≡ false)
+pub inner-run-stands : (s : Bytes) (i k : ℕ) → k < run is_inner (drop i s) → (is_wide (get_or s (i + k) 0) ≡ false) × (eqb (get_or s (i + k) 0) 0x0A ≡ false)
 inner-run-stands s i k h =
-    let e = run_holds isInner s i k h in
+    let e = run_holds is_inner s i k h in
     (inner-narrow (get_or s (i + k) 0) e, inner-no-lf (get_or s (i + k) 0) e)

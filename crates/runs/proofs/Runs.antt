@@ -11,7 +11,7 @@ use lib.Dec.{eqb, leb}
 use lib.Seq.{drop-cons, drop-drop, get_or-drop}
 use Rattle.format.specs.Table.{Bytes}
 use Rattle.format.proofs.Tests.{and_both}
-use Rattle.runs.specs.Runs.{run, pairs, isBreak}
+use Rattle.runs.specs.Runs.{run, pairs, is_break}
 
 module _ (p : ℕ → Bool) where
   pub run_more : (s : Bytes) (i : ℕ) → i < length s → p (get_or s i 0) ≡ true → run p (drop i s) ≡ suc (run p (drop (i + 1) s))
@@ -255,21 +255,21 @@ pub record BreakAt (s : Bytes) (at : ℕ) : Type 0 where
   pub first : get_or s at 0 ≡ 0x0D
   pub second : get_or s (at + 1) 0 ≡ 0x0A
 
-pub break-two : (s : Bytes) (i : ℕ) → i + 1 < length s → isBreak (drop i s) ≡ (eqb (get_or s i 0) 0x0D && eqb (get_or s (i + 1) 0) 0x0A)
-unfolding isBreak
+pub break-two : (s : Bytes) (i : ℕ) → i + 1 < length s → is_break (drop i s) ≡ (eqb (get_or s i 0) 0x0D && eqb (get_or s (i + 1) 0) 0x0A)
+unfolding is_break
 break-two s i h = rw (add-one i, drop-cons s i 0 (omega arith), drop-cons s (suc i) 0 (omega arith))
 
-break-short : (f : Bytes) → length f ≤ 1 → isBreak f ≡ false
-unfolding isBreak
+break-short : (f : Bytes) → length f ≤ 1 → is_break f ≡ false
+unfolding is_break
 break-short [] h = refl
 break-short (a ∷ []) h = refl
 break-short (a ∷ (b ∷ f)) h = absurd (omega arith)
 
-pub break-end : (s : Bytes) (i : ℕ) → length s ≤ i + 1 → isBreak (drop i s) ≡ false
+pub break-end : (s : Bytes) (i : ℕ) → length s ≤ i + 1 → is_break (drop i s) ≡ false
 break-end s i h = break-short (drop i s) (rw (length-drop i s) (omega arith))
 
 -- where is_break says so, there is one, and only there
-pub break-at : (s : Bytes) (i : ℕ) → isBreak (drop i s) ≡ true → BreakAt s i
+pub break-at : (s : Bytes) (i : ℕ) → is_break (drop i s) ≡ true → BreakAt s i
 break-at s i e = by (leb (length s) (i + 1)) refl
   where
     by : (x : Bool) → leb (length s) (i + 1) ≡ x → BreakAt s i
@@ -279,5 +279,5 @@ break-at s i e = by (leb (length s) (i + 1)) refl
         let b = and_both (eqb (get_or s i 0) 0x0D) (eqb (get_or s (i + 1) 0) 0x0A) (sym (break-two s i l) ∙ e) in
         record { inside = l; first = eqb-true (get_or s i 0) 0x0D b.0; second = eqb-true (get_or s (i + 1) 0) 0x0A b.1 }
 
-pub break-is : (s : Bytes) (i : ℕ) → BreakAt s i → isBreak (drop i s) ≡ true
+pub break-is : (s : Bytes) (i : ℕ) → BreakAt s i → is_break (drop i s) ≡ true
 break-is s i h = break-two s i h.inside ∙ rw (h.first, h.second)

@@ -3,8 +3,8 @@
 // specs/Runs.antt says what a run is. Blocks are judged by loops that the compiler makes vectors of.
 ghost use Rattle.std.specs.Prelude.{◌≡◌, true, cond, ℕ, ◌+◌, ◌*◌, ◌/◌, ◌<◌, ◌≤◌, leb, length, get_or, drop};
 ghost use Rattle.format.specs.Dialect.{dialect};
-ghost use Rattle.format.specs.Place.{lineFeeds, sinceLf};
-ghost use Rattle.runs.specs.Runs.{run, is_plain, isInner, pairs, isBreak};
+ghost use Rattle.format.specs.Place.{line_feeds, since_lf};
+ghost use Rattle.runs.specs.Runs.{run, is_plain, is_inner, pairs, is_break};
 
 // Whether b is plain text in the dialect of any two bytes.
 pub fn is_plain(delimiter: u8, leniencies: u8, b: u8) -> bool
@@ -30,7 +30,7 @@ pub fn text_run(delimiter: u8, leniencies: u8, s: &[u8], from: usize) -> usize
 // Whether b is content between quotes in every dialect, needs no leniency and ends no line. Its class at
 // strict says so too, but only without a branch do blocks become vectors.
 pub fn is_inner(b: u8) -> bool
-    ensures { result ≡ isInner b }
+    ensures { result ≡ is_inner b }
 {
     (b == 0x0D) | ((0x20 <= b) & (b <= 0x7E) & (b != 0x22))
 }
@@ -38,7 +38,7 @@ pub fn is_inner(b: u8) -> bool
 // Whether the 16 bytes from a place on are all such.
 fn inner_block(s: &[u8], at: usize) -> bool
     requires { at + 16 ≤ length s.now }
-    ensures { result ≡ leb 16 (run isInner (drop at s.now)) }
+    ensures { result ≡ leb 16 (run is_inner (drop at s.now)) }
 {
     let mut all = true;
     let mut j = 0;
@@ -51,7 +51,7 @@ fn inner_block(s: &[u8], at: usize) -> bool
 
 // How many such bytes stand from a place on, in whole blocks of 16.
 pub fn inner_blocks(s: &[u8], from: usize) -> usize
-    ensures { result ≡ run isInner (drop from s.now) / 16 * 16 }
+    ensures { result ≡ run is_inner (drop from s.now) / 16 * 16 }
 {
     if s.len() <= from {
         return 0;
@@ -68,7 +68,7 @@ pub fn inner_blocks(s: &[u8], from: usize) -> usize
 
 // How many such bytes stand from a place on.
 pub fn inner_run(s: &[u8], from: usize) -> usize
-    ensures { result ≡ run isInner (drop from s.now) }
+    ensures { result ≡ run is_inner (drop from s.now) }
 {
     let mut i = from + inner_blocks(s, from);
     while i < s.len() {
@@ -145,7 +145,7 @@ pub fn pair_run(s: &[u8], from: usize) -> usize
 
 // Whether a CR and an LF stand at a place.
 pub fn is_break(s: &[u8], at: usize) -> bool
-    ensures { result ≡ isBreak (drop at s.now) }
+    ensures { result ≡ is_break (drop at s.now) }
 {
     if s.len() < 2 {
         return false;
@@ -161,7 +161,7 @@ pub fn is_break(s: &[u8], at: usize) -> bool
 
 // How many line feeds stand from a place on.
 pub fn line_feeds(s: &[u8], from: usize) -> usize
-    ensures { result ≡ lineFeeds (drop from s.now) }
+    ensures { result ≡ line_feeds (drop from s.now) }
 {
     let mut feeds = 0;
     let mut k = from;
@@ -180,7 +180,7 @@ fn one(x: bool) -> usize
 
 // How many bytes stand behind the last line feed from a place on, or all where there is none.
 pub fn since_lf(s: &[u8], from: usize) -> usize
-    ensures { result ≡ length (sinceLf (drop from s.now)) }
+    ensures { result ≡ length (since_lf (drop from s.now)) }
 {
     let mut first = s.len();
     while from < first {

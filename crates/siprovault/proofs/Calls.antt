@@ -12,18 +12,18 @@ use Rattle.writer.proofs.Calls.{one-numbers}
 use Rattle.face.specs.declared.SvWritten.{SvWritten}
 use Rattle.face.specs.declared.SvColumn.{SvColumn}
 use Rattle.face.specs.declared.SvPart.{SvPart}
-use Rattle.face.specs.Face.{svWrittenNumbers, svColumnNumbers, svPartNumbers, writtenFrom, columnFrom, partFrom}
+use Rattle.face.specs.Face.{sv_written_numbers, sv_column_numbers, sv_part_numbers, written_from, column_from, part_from}
 
 module _ {text : Bytes} {ends rows : List ℕ} where
   pub one-write :
       {mode : ℕ} {out x y : Bytes} {r s : SvWritten}
-      → WriteOutcome text ends rows mode out (svWrittenNumbers r) x → WriteOutcome text ends rows mode out (svWrittenNumbers s) y → (r ≡ s) × (x ≡ y)
-  one-write p q = let e = one-numbers p q in (ap writtenFrom e.0, e.1)
+      → WriteOutcome text ends rows mode out (sv_written_numbers r) x → WriteOutcome text ends rows mode out (sv_written_numbers s) y → (r ≡ s) × (x ≡ y)
+  one-write p q = let e = one-numbers p q in (ap written_from e.0, e.1)
 
   pub one-find :
-      {name : Bytes} {r s : SvColumn} → Searched text ends rows name (svColumnNumbers r) → Searched text ends rows name (svColumnNumbers s) → r ≡ s
-  one-find p q = ap columnFrom (one_found p q)
+      {name : Bytes} {r s : SvColumn} → Searched text ends rows name (sv_column_numbers r) → Searched text ends rows name (sv_column_numbers s) → r ≡ s
+  one-find p q = ap column_from (one_found p q)
 
   pub one-show :
-      {m n : ℕ} {r s : SvPart} → Located text ends rows m n (svPartNumbers r) → Located text ends rows m n (svPartNumbers s) → r ≡ s
-  one-show p q = ap partFrom (one_place p q)
+      {m n : ℕ} {r s : SvPart} → Located text ends rows m n (sv_part_numbers r) → Located text ends rows m n (sv_part_numbers s) → r ≡ s
+  one-show p q = ap part_from (one_place p q)

@@ -7,7 +7,7 @@ ghost use Rattle.tables.specs.Search.{Searched};
 ghost use Rattle.tables.specs.Shown.{Located};
 ghost use Rattle.writer.specs.Write.{WriteOutcome};
 ghost use Rattle.jump.specs.Jump.{IndexOutcome, JumpOutcome};
-ghost use Rattle.face.specs.Face.{svWrittenNumbers, svColumnNumbers, svPartNumbers};
+ghost use Rattle.face.specs.Face.{sv_written_numbers, sv_column_numbers, sv_part_numbers};
 
 use face::{SvColumn, SvPart, SvWritten};
 use format::{Answer, FieldNumber, Indexed, Jumped, RecordNumber};
@@ -105,7 +105,7 @@ pub extern "C" fn sv_write(
     mode: u8,
     out: &mut [u8],
 ) -> SvWritten
-    ensures { WriteOutcome text.now ends.now rows.now mode out.old (svWrittenNumbers result) out.new }
+    ensures { WriteOutcome text.now ends.now rows.now mode out.old (sv_written_numbers result) out.new }
 {
     let answer = writer::write(text, ends, rows, mode, out);
     face::written(answer)
@@ -114,7 +114,7 @@ pub extern "C" fn sv_write(
 // Finds a column by its name in the header.
 #[unsafe(no_mangle)]
 pub extern "C" fn sv_find_column(text: &[u8], ends: &[u32], rows: &[u32], name: &[u8]) -> SvColumn
-    ensures { Searched text.now ends.now rows.now name.now (svColumnNumbers result) }
+    ensures { Searched text.now ends.now rows.now name.now (sv_column_numbers result) }
 {
     face::found(tables::find_column(text, ends, rows, name))
 }
@@ -128,7 +128,7 @@ pub extern "C" fn sv_show(
     record: usize,
     column: usize,
 ) -> SvPart
-    ensures { Located text.now ends.now rows.now «record» column (svPartNumbers result) }
+    ensures { Located text.now ends.now rows.now «record» column (sv_part_numbers result) }
 {
     let r = RecordNumber(face::at_most(record));
     let c = FieldNumber(face::at_most(column));

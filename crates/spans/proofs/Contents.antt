@@ -9,14 +9,14 @@ use borrow.Author.Tests.{eqb-true}
 use Rattle.format.specs.declared.Place.{Place}
 use Rattle.format.specs.Table.{Bytes}
 use Rattle.format.specs.Dialect.{dialect}
-use Rattle.format.specs.House.{contentLimit}
+use Rattle.format.specs.House.{content_limit}
 use Rattle.steps.specs.Steps.{start, bare, quoted, shut}
-use Rattle.steps.specs.Numbers.{formNumber}
+use Rattle.steps.specs.Numbers.{form_number}
 use Rattle.runs.specs.Runs.{run, is_plain}
 use Rattle.state.specs.declared.Check.{Check}
 use Rattle.spans.specs.declared.Walk.{Walk}
-use Rattle.places.specs.Counters.{counterLimit, plus, along, spot}
-use Rattle.state.specs.Check.{fed, fedAll, jumped}
+use Rattle.places.specs.Counters.{counter_limit, plus, along, spot}
+use Rattle.state.specs.Check.{fed, fed_all, jumped}
 use Rattle.state.specs.Settled.{Settled}
 use Rattle.spans.specs.Walk.{opening, begun, texted, Walking}
 use Rattle.places.proofs.Counting.{plus-counted, along-along, spot-further}
@@ -26,39 +26,39 @@ use Rattle.state.proofs.Closing.{quote-opened}
 use Rattle.spans.proofs.Fields.{Opened, opened_some, opened-none, stop_at, Ended}
 
 -- the start of the field in work
-pub at-start : (c : Check) (s : Bytes) (a : ℕ) (x : Walk) → Walking c s a x → Opened c a x (begun x a c)
-at-start c s a x w = go (eqb x.fields 0) refl
+pub at_start : (c : Check) (s : Bytes) (a : ℕ) (x : Walk) → Walking c s a x → Opened c a x (begun x a c)
+at_start c s a x w = go (eqb x.fields 0) refl
   where
     go : (y : Bool) → eqb x.fields 0 ≡ y → Opened c a x (cond y c (opening x a c))
     go true e = let f = eqb-true x.fields 0 e in opened-none c s a x w.level (w.unmoved f) f
     go false e = opened_some c a x w.line (let q = w.line in omega (arith, w.on))
 
 -- m bytes of text behind it
-texted-some : (m : ℕ) (e : Check) → texted (suc m) e ≡ jumped (formNumber bare) (along (suc m) e.here) (suc m) e
+texted-some : (m : ℕ) (e : Check) → texted (suc m) e ≡ jumped (form_number bare) (along (suc m) e.here) (suc m) e
 texted-some m e = rw (eqb-suc-zero m)
 
 pub texted-leads :
-    (e : Check) (s : Bytes) (i m : ℕ) → e.refusal ≡ 0 → e.form ≡ formNumber start → m ≤ run (is_plain (dialect e.delimiter e.leniencies)) (drop i s)
-    → fedAll (texted m e) (drop (i + m) s) ≡ fedAll e (drop i s)
+    (e : Check) (s : Bytes) (i m : ℕ) → e.refusal ≡ 0 → e.form ≡ form_number start → m ≤ run (is_plain (dialect e.delimiter e.leniencies)) (drop i s)
+    → fed_all (texted m e) (drop (i + m) s) ≡ fed_all e (drop i s)
 texted-leads e s i zero r f h = let z : i + 0 ≡ i = omega arith in rw z
 texted-leads e s i (suc m) r f h =
-    ap (λ (g : Check). fedAll g (drop (i + suc m) s)) (texted-some m e) ∙ text-leap s i (suc m) e (omega arith) r (omega arith) h
+    ap (λ (g : Check). fed_all g (drop (i + suc m) s)) (texted-some m e) ∙ text-leap s i (suc m) e (omega arith) r (omega arith) h
 
 module _ (c : Check) (a : ℕ) (x : Walk) (e : Check) (o : Opened c a x e) (calm : c.refusal ≡ 0) where
   quiet : e.refusal ≡ 0
   quiet = o.refusal ∙ calm
 
-  small : (m n k : ℕ) → n ≡ 0 → k ≡ 0 → m ≤ contentLimit → plus (plus n k) m ≤ contentLimit
+  small : (m n k : ℕ) → n ≡ 0 → k ≡ 0 → m ≤ content_limit → plus (plus n k) m ≤ content_limit
   small m n k e₁ e₂ l = omega arith
 
   weighs : (t m n k : ℕ) → n ≡ 0 → k ≡ 0 → plus t (plus (plus n k) m) ≡ plus t m
   weighs t m n k e₁ e₂ = ap (plus t) (whole n k e₁ e₂) ∙ plus-counted t m
     where
-      whole : (n k : ℕ) → n ≡ 0 → k ≡ 0 → plus (plus n k) m ≡ min m counterLimit
+      whole : (n k : ℕ) → n ≡ 0 → k ≡ 0 → plus (plus n k) m ≡ min m counter_limit
       whole n k e₁ e₂ = omega arith
 
   -- a bare field ends
-  jump-ended : (m : ℕ) → suc m ≤ contentLimit → Ended c a x (jumped (formNumber bare) (along (suc m) e.here) (suc m) e) (stop_at (x.start + suc m) (suc m) x.line x.lines)
+  jump-ended : (m : ℕ) → suc m ≤ content_limit → Ended c a x (jumped (form_number bare) (along (suc m) e.here) (suc m) e) (stop_at (x.start + suc m) (suc m) x.line x.lines)
   jump-ended m l =
       rw jumped-is
       (record {
@@ -79,7 +79,7 @@ module _ (c : Check) (a : ℕ) (x : Walk) (e : Check) (o : Opened c a x e) (calm
       joins : (k : ℕ) → x.start + (suc m + (k + 1)) ≡ x.start + suc m + (k + 1)
       joins k = omega arith
 
-  pub text-ended : (m : ℕ) → m ≤ contentLimit → Ended c a x (texted m e) (stop_at (x.start + m) m x.line x.lines)
+  pub text-ended : (m : ℕ) → m ≤ content_limit → Ended c a x (texted m e) (stop_at (x.start + m) m x.line x.lines)
   text-ended zero l =
       record {
         form = start;
@@ -108,7 +108,7 @@ module _ (c : Check) (a : ℕ) (x : Walk) (e : Check) (o : Opened c a x e) (calm
           delimiter = e.delimiter;
           leniencies = e.leniencies;
           refusal = e.refusal;
-          form = formNumber quoted;
+          form = form_number quoted;
           begun = 1;
           used = e.used;
           here = along 1 e.here;
@@ -117,12 +117,12 @@ module _ (c : Check) (a : ℕ) (x : Walk) (e : Check) (o : Opened c a x e) (calm
           counts = e.counts;
         }
 
-    no-quote : e.delimiter ≡ 0x22 → ⊥
-    no-quote q = other (sym o.delimiter ∙ q)
+    no_quote : e.delimiter ≡ 0x22 → ⊥
+    no_quote q = other (sym o.delimiter ∙ q)
 
     pub opens-quote : fed e 0x22 ≡ within-quotes
     unfolding within-quotes
-    opens-quote = quote-opened e quiet o.form no-quote ∙ entered-is (along 1 e.here) (formNumber quoted) e.here e.used e.field e
+    opens-quote = quote-opened e quiet o.form no_quote ∙ entered-is (along 1 e.here) (form_number quoted) e.here e.used e.field e
 
     pub within-settled : Settled within-quotes
     unfolding within-quotes
@@ -130,7 +130,7 @@ module _ (c : Check) (a : ℕ) (x : Walk) (e : Check) (o : Opened c a x e) (calm
         record {
           refusal = quiet;
           form = refl;
-          other = no-quote;
+          other = no_quote;
           begun = refl;
           held = o.held;
           content = let z = o.content in omega arith;
@@ -139,7 +139,7 @@ module _ (c : Check) (a : ℕ) (x : Walk) (e : Check) (o : Opened c a x e) (calm
           byte = low e.here.byte.0;
         }
       where
-        low : (n : ℕ) → plus n 1 ≤ counterLimit
+        low : (n : ℕ) → plus n 1 ≤ counter_limit
         low n = omega arith
 
     module _ (l t n m : ℕ) where
@@ -149,7 +149,7 @@ module _ (c : Check) (a : ℕ) (x : Walk) (e : Check) (o : Opened c a x e) (calm
             delimiter = e.delimiter;
             leniencies = e.leniencies;
             refusal = e.refusal;
-            form = formNumber quoted;
+            form = form_number quoted;
             begun = 1;
             used = e.used;
             here = spot l t n (along 1 e.here);
@@ -158,7 +158,7 @@ module _ (c : Check) (a : ℕ) (x : Walk) (e : Check) (o : Opened c a x e) (calm
             counts = e.counts;
           }
 
-      pub content-is : jumped (formNumber quoted) (spot l t n within-quotes.here) m within-quotes ≡ content-read
+      pub content-is : jumped (form_number quoted) (spot l t n within-quotes.here) m within-quotes ≡ content-read
       unfolding content-read within-quotes
       content-is = jumped-is 3 (spot l t n (along 1 e.here)) m within-quotes
 
@@ -168,7 +168,7 @@ module _ (c : Check) (a : ℕ) (x : Walk) (e : Check) (o : Opened c a x e) (calm
             delimiter = e.delimiter;
             leniencies = e.leniencies;
             refusal = e.refusal;
-            form = formNumber shut;
+            form = form_number shut;
             begun = 1;
             used = e.used;
             here = along 1 (spot l t n (along 1 e.here));
@@ -179,7 +179,7 @@ module _ (c : Check) (a : ℕ) (x : Walk) (e : Check) (o : Opened c a x e) (calm
 
       pub closes : fed content-read 0x22 ≡ behind-quotes
       unfolding behind-quotes content-read
-      closes = shut-step content-read quiet refl no-quote ∙ entered-is (along 1 content-read.here) 4 content-read.anchor content-read.used content-read.field content-read
+      closes = shut-step content-read quiet refl no_quote ∙ entered-is (along 1 content-read.here) 4 content-read.anchor content-read.used content-read.field content-read
 
       -- the place behind the closing quote
       module _ (z : ℕ) (ends : x.start + 1 + n ≡ z) (j : ℕ) (on_line : spot l t n (spot x.lines (x.start + 1 - x.line) (x.start + 1 - a) c.here) ≡ spot (x.lines + l) (z - j) (z - a) c.here) (line-in : j ≤ z) (on : a ≤ z) where
@@ -187,7 +187,7 @@ module _ (c : Check) (a : ℕ) (x : Walk) (e : Check) (o : Opened c a x e) (calm
         place_is =
             ap (λ (p : Place). along 1 (spot l t n p)) (o.ahead 1) ∙ ap (along 1) on_line ∙ spot-further (x.lines + l) z j a 1 c.here line-in on
 
-        pub quotes-ended : m ≤ contentLimit → Ended c a x behind-quotes (stop_at (z + 1) m j (x.lines + l))
+        pub quotes-ended : m ≤ content_limit → Ended c a x behind-quotes (stop_at (z + 1) m j (x.lines + l))
         unfolding behind-quotes
         quotes-ended q =
             record {

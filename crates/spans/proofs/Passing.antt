@@ -8,27 +8,27 @@ use lib.ListN.{length, get_or, drop}
 use borrow.Author.Tests.{eqb-true, eqb-false, ne_eqb}
 use Rattle.format.specs.Table.{Bytes}
 use Rattle.format.specs.Dialect.{dialect}
-use Rattle.format.specs.House.{contentLimit}
+use Rattle.format.specs.House.{content_limit}
 use Rattle.steps.specs.Steps.{start}
-use Rattle.runs.specs.Runs.{run, is_plain, isBreak}
+use Rattle.runs.specs.Runs.{run, is_plain, is_break}
 use Rattle.format.proofs.Tests.{and_both}
 use Rattle.runs.proofs.Runs.{run_join, run-within, BreakAt, break-at}
 use Rattle.format.specs.Memory.{largest32}
 use Rattle.state.specs.declared.Check.{Check}
 use Rattle.spans.specs.declared.Inside.{Inside}
 use Rattle.spans.specs.declared.Walk.{Walk}
-use Rattle.places.specs.Counters.{counterLimit, spot}
-use Rattle.state.specs.Check.{newField, opened, placed, noting, fed, fedAll}
-use Rattle.spans.specs.Walk.{Between, lastLine, Level, placed_at, fieldOn, rowOn, start_of, tallied, loneEnds, opening, begun, texted, walked, Closed, end_at, endedBy, Fits, Sized, Walking, Goes, Leading}
+use Rattle.places.specs.Counters.{counter_limit, spot}
+use Rattle.state.specs.Check.{new_field, opened, placed, noting, fed, fed_all}
+use Rattle.spans.specs.Walk.{Between, last_line, Level, placed_at, field_on, row_on, start_of, tallied, lone_ends, opening, begun, texted, walked, Closed, end_at, ended_by, Fits, Sized, Walking, Goes, Leading}
 use Rattle.places.proofs.Counting.{spot-flat, spot-lines}
 use Rattle.state.proofs.Between.{fed-at}
 use Rattle.spans.proofs.Fields.{Opened, Stop, stop_at, Ended, field_end, row-end, lone-end}
-use Rattle.spans.proofs.Contents.{at-start, behind-quotes, closes, content-is, content-read, opens-quote, quotes-ended, text-ended, texted-leads, within-quotes, within-settled}
+use Rattle.spans.proofs.Contents.{at_start, behind-quotes, closes, content-is, content-read, opens-quote, quotes-ended, text-ended, texted-leads, within-quotes, within-settled}
 
 -- a state where the field in work ends, to which the bytes of the field lead
 record Stopped (c : Check) (s : Bytes) (a : ℕ) (x : Walk) (g : Check) (z : Stop) : Type 0 where
   ended : Ended c a x g z
-  leads : fedAll g (drop z.at s) ≡ fedAll (begun x a c) (drop x.start s)
+  leads : fed_all g (drop z.at s) ≡ fed_all (begun x a c) (drop x.start s)
   on : x.start ≤ z.at
   line : z.line ≤ z.at
   from : a ≤ z.line
@@ -71,7 +71,7 @@ module _ (c : Check) (s : Bytes) (a : ℕ) (x : Walk) (w : Walking c s a x) wher
     far : a ≤ z.at
     far = omega arith
 
-    walking-field : z.at < length s → get_or s z.at 0 ≡ c.delimiter → Walking c s a (fieldOn x (z.at + 1) z.content z.line z.lines)
+    walking-field : z.at < length s → get_or s z.at 0 ≡ c.delimiter → Walking c s a (field_on x (z.at + 1) z.content z.line z.lines)
     walking-field v e =
         let closed = w.closed in
         let number = w.number in
@@ -88,15 +88,15 @@ module _ (c : Check) (s : Bytes) (a : ℕ) (x : Walk) (w : Walking c s a x) wher
           unmoved = λ q. absurd (omega arith);
           plain = omega arith;
           same =
-              ap (λ (y : Bool). fedAll (cond y c (opening (fieldOn x (z.at + 1) z.content z.line z.lines) a c)) (drop (z.at + 1) s)) (some x.fields)
-              ∙ ap (λ (y : Check). fedAll y (drop (z.at + 1) s)) (sym (field_end c a x g z h.ended far w.level.no-lf (get_or s z.at 0) e))
+              ap (λ (y : Bool). fed_all (cond y c (opening (field_on x (z.at + 1) z.content z.line z.lines) a c)) (drop (z.at + 1) s)) (some x.fields)
+              ∙ ap (λ (y : Check). fed_all y (drop (z.at + 1) s)) (sym (field_end c a x g z h.ended far w.level.no_lf (get_or s z.at 0) e))
               ∙ fed-at g s z.at v ∙ h.leads ∙ w.same;
         }
 
     -- behind what ends its record, one byte or two, where the next one begins
     walking-next :
-        (p : ℕ) → z.at < p → p ≤ z.at + 2 → p ≤ length s → fedAll (opening (rowOn x p z.content z.lines) a c) (drop p s) ≡ fedAll g (drop z.at s)
-        → Walking c s a (rowOn x p z.content z.lines)
+        (p : ℕ) → z.at < p → p ≤ z.at + 2 → p ≤ length s → fed_all (opening (row_on x p z.content z.lines) a c) (drop p s) ≡ fed_all g (drop z.at s)
+        → Walking c s a (row_on x p z.content z.lines)
     walking-next p on near v e =
         let closed = w.closed in
         record {
@@ -111,31 +111,31 @@ module _ (c : Check) (s : Bytes) (a : ℕ) (x : Walk) (w : Walking c s a x) wher
           number = omega arith;
           unmoved = λ q. absurd (omega arith);
           plain = none_between p _;
-          same = ap (λ (y : Bool). fedAll (cond y c (opening (rowOn x p z.content z.lines) a c)) (drop p s)) (some x.fields) ∙ e ∙ h.leads ∙ w.same;
+          same = ap (λ (y : Bool). fed_all (cond y c (opening (row_on x p z.content z.lines) a c)) (drop p s)) (some x.fields) ∙ e ∙ h.leads ∙ w.same;
         }
 
     walking-row :
-        z.at + 1 < length s → get_or s z.at 0 ≡ 0x0D → get_or s (z.at + 1) 0 ≡ 0x0A → c.counts.width ≡ x.number + 1 → Walking c s a (rowOn x (z.at + 2) z.content z.lines)
+        z.at + 1 < length s → get_or s z.at 0 ≡ 0x0D → get_or s (z.at + 1) 0 ≡ 0x0A → c.counts.width ≡ x.number + 1 → Walking c s a (row_on x (z.at + 2) z.content z.lines)
     walking-row v e₁ e₂ q =
         let two : z.at + 1 + 1 ≡ z.at + 2 = omega arith in
         walking-next (z.at + 2) (omega arith) (omega arith) (omega arith)
-        (ap (λ (y : Check). fedAll y (drop (z.at + 2) s)) (sym (row-end c a x g z h.ended far w.level.no-lf w.level.no-cr q w.level.width))
-        ∙ ap (λ (i : ℕ). fedAll (fed (fed g 0x0D) 0x0A) (drop i s)) (sym two)
-        ∙ ap (λ (b : ℕ). fedAll (fed (fed g 0x0D) b) (drop (z.at + 1 + 1) s)) (sym e₂)
+        (ap (λ (y : Check). fed_all y (drop (z.at + 2) s)) (sym (row-end c a x g z h.ended far w.level.no_lf w.level.no_cr q w.level.width))
+        ∙ ap (λ (i : ℕ). fed_all (fed (fed g 0x0D) 0x0A) (drop i s)) (sym two)
+        ∙ ap (λ (b : ℕ). fed_all (fed (fed g 0x0D) b) (drop (z.at + 1 + 1) s)) (sym e₂)
         ∙ fed-at (fed g 0x0D) s (z.at + 1) v
-        ∙ ap (λ (b : ℕ). fedAll (fed g b) (drop (z.at + 1) s)) (sym e₁)
+        ∙ ap (λ (b : ℕ). fed_all (fed g b) (drop (z.at + 1) s)) (sym e₁)
         ∙ fed-at g s z.at (omega arith))
 
     walking-lone :
-        z.at < length s → get_or s z.at 0 ≡ 0x0A → loneEnds c ≡ true → c.counts.width ≡ x.number + 1 → Walking c s a (rowOn x (z.at + 1) z.content z.lines)
+        z.at < length s → get_or s z.at 0 ≡ 0x0A → lone_ends c ≡ true → c.counts.width ≡ x.number + 1 → Walking c s a (row_on x (z.at + 1) z.content z.lines)
     walking-lone v e y q =
         walking-next (z.at + 1) (omega arith) (omega arith) (omega arith)
-        (ap (λ (f : Check). fedAll f (drop (z.at + 1) s)) (sym (lone-end c a x g z h.ended far w.level.no-lf w.level.no-cr q w.level.width y))
-        ∙ ap (λ (b : ℕ). fedAll (fed g b) (drop (z.at + 1) s)) (sym e)
+        (ap (λ (f : Check). fed_all f (drop (z.at + 1) s)) (sym (lone-end c a x g z h.ended far w.level.no_lf w.level.no_cr q w.level.width y))
+        ∙ ap (λ (b : ℕ). fed_all (fed g b) (drop (z.at + 1) s)) (sym e)
         ∙ fed-at g s z.at v)
 
   -- a bare field ends where the walk stands
-  module _ (l : x.at - x.start ≤ contentLimit) where
+  module _ (l : x.at - x.start ≤ content_limit) where
     stands : x.start + (x.at - x.start) ≡ x.at
     stands = let from = w.from in omega arith
 
@@ -144,15 +144,15 @@ module _ (c : Check) (s : Bytes) (a : ℕ) (x : Walk) (w : Walking c s a x) wher
 
     bare-ended : Ended c a x ends-here (stop_at x.at (x.at - x.start) x.line x.lines)
     unfolding ends-here
-    bare-ended = rw stands at (text-ended c a x (begun x a c) (at-start c s a x w) w.level.refusal (x.at - x.start) l)
+    bare-ended = rw stands at (text-ended c a x (begun x a c) (at_start c s a x w) w.level.refusal (x.at - x.start) l)
 
-    bare_leads : fedAll ends-here (drop x.at s) ≡ fedAll (begun x a c) (drop x.start s)
+    bare_leads : fed_all ends-here (drop x.at s) ≡ fed_all (begun x a c) (drop x.start s)
     unfolding ends-here
     bare_leads =
-        let o = at-start c s a x w in
+        let o = at_start c s a x w in
         let d : is_plain (dialect (begun x a c).delimiter (begun x a c).leniencies) ≡ is_plain (dialect c.delimiter c.leniencies) =
         ap₂ (λ (y z : ℕ). is_plain (dialect y z)) o.delimiter o.leniencies in
-        ap (λ (i : ℕ). fedAll (texted (x.at - x.start) (begun x a c)) (drop i s)) (sym stands)
+        ap (λ (i : ℕ). fed_all (texted (x.at - x.start) (begun x a c)) (drop i s)) (sym stands)
         ∙ texted-leads (begun x a c) s x.start (x.at - x.start) (o.refusal ∙ w.level.refusal) o.form (rw d w.plain)
 
     bare-stopped : Stopped c s a x ends-here (stop_at x.at (x.at - x.start) x.line x.lines)
@@ -167,22 +167,22 @@ module _ (c : Check) (s : Bytes) (a : ℕ) (x : Walk) (w : Walking c s a x) wher
           text = omega (arith, w.text, w.from);
         }
 
-    pub bare-field : x.at < length s → get_or s x.at 0 ≡ c.delimiter → Walking c s a (fieldOn x (x.at + 1) (x.at - x.start) x.line x.lines)
+    pub bare-field : x.at < length s → get_or s x.at 0 ≡ c.delimiter → Walking c s a (field_on x (x.at + 1) (x.at - x.start) x.line x.lines)
     bare-field v e = walking-field ends-here (stop_at x.at (x.at - x.start) x.line x.lines) bare-stopped v e
 
     pub bare-row :
         x.at + 1 < length s → get_or s x.at 0 ≡ 0x0D → get_or s (x.at + 1) 0 ≡ 0x0A → c.counts.width ≡ x.number + 1
-        → Walking c s a (rowOn x (x.at + 2) (x.at - x.start) x.lines)
+        → Walking c s a (row_on x (x.at + 2) (x.at - x.start) x.lines)
     bare-row v e₁ e₂ q = walking-row ends-here (stop_at x.at (x.at - x.start) x.line x.lines) bare-stopped v e₁ e₂ q
 
     pub bare-lone :
-        x.at < length s → get_or s x.at 0 ≡ 0x0A → loneEnds c ≡ true → c.counts.width ≡ x.number + 1 → Walking c s a (rowOn x (x.at + 1) (x.at - x.start) x.lines)
+        x.at < length s → get_or s x.at 0 ≡ 0x0A → lone_ends c ≡ true → c.counts.width ≡ x.number + 1 → Walking c s a (row_on x (x.at + 1) (x.at - x.start) x.lines)
     bare-lone v e y q = walking-lone ends-here (stop_at x.at (x.at - x.start) x.line x.lines) bare-stopped v e y q
 
   -- a quoted field begins where the walk stands, and its content ends at r
-  module _ (here : x.at ≡ x.start) (v : x.at < length s) (e : get_or s x.at 0 ≡ 0x22) (r : Inside) (b : Between s (x.at + 1) r) (l : r.content ≤ contentLimit) (u : r.end < length s) (q : get_or s r.end 0 ≡ 0x22) where
+  module _ (here : x.at ≡ x.start) (v : x.at < length s) (e : get_or s x.at 0 ≡ 0x22) (r : Inside) (b : Between s (x.at + 1) r) (l : r.content ≤ content_limit) (u : r.end < length s) (q : get_or s r.end 0 ≡ 0x22) where
     o : Opened c a x (begun x a c)
-    o = at-start c s a x w
+    o = at_start c s a x w
 
     bytes-are : x.start + 1 + (r.end - (x.at + 1)) ≡ r.end
     bytes-are = let on = b.on in omega arith
@@ -191,7 +191,7 @@ module _ (c : Check) (s : Bytes) (a : ℕ) (x : Walk) (w : Walking c s a x) wher
     total = let on = b.on in omega (arith, w.on, w.line)
 
     after-quotes : Check
-    after-quotes = behind-quotes c a x (begun x a c) o w.level.refusal w.level.no-quote r.lines r.tail (r.end - (x.at + 1)) r.content
+    after-quotes = behind-quotes c a x (begun x a c) o w.level.refusal w.level.no_quote r.lines r.tail (r.end - (x.at + 1)) r.content
 
     line-from : (y : Bool) → eqb r.lines 0 ≡ y → (a ≤ cond y x.line (r.end - r.tail)) × (cond y x.line (r.end - r.tail) ≤ r.end)
     line-from true z = (w.on, omega (arith, w.line, w.from, b.on))
@@ -213,29 +213,29 @@ module _ (c : Check) (s : Bytes) (a : ℕ) (x : Walk) (w : Walking c s a x) wher
     far-on : a ≤ r.end
     far-on = omega (arith, w.on, w.line, w.from, b.on)
 
-    quoted-ended : Ended c a x after-quotes (stop_at (r.end + 1) r.content (lastLine x.line r) (x.lines + r.lines))
+    quoted-ended : Ended c a x after-quotes (stop_at (r.end + 1) r.content (last_line x.line r) (x.lines + r.lines))
     unfolding after-quotes
     quoted-ended =
-        quotes-ended c a x (begun x a c) o w.level.refusal w.level.no-quote r.lines r.tail (r.end - (x.at + 1)) r.content r.end bytes-are
+        quotes-ended c a x (begun x a c) o w.level.refusal w.level.no_quote r.lines r.tail (r.end - (x.at + 1)) r.content r.end bytes-are
         (cond (eqb r.lines 0) x.line (r.end - r.tail)) (on_line (eqb r.lines 0) refl) (line-from (eqb r.lines 0) refl).1 far-on l
 
-    quoted-leads : fedAll after-quotes (drop (r.end + 1) s) ≡ fedAll (begun x a c) (drop x.start s)
+    quoted-leads : fed_all after-quotes (drop (r.end + 1) s) ≡ fed_all (begun x a c) (drop x.start s)
     unfolding after-quotes
     quoted-leads =
         let f = begun x a c in
-        let inner = within-quotes c a x f o w.level.refusal w.level.no-quote in
-        let read = content-read c a x f o w.level.refusal w.level.no-quote r.lines r.tail (r.end - (x.at + 1)) r.content in
-        ap (λ (y : Check). fedAll y (drop (r.end + 1) s)) (sym (closes c a x f o w.level.refusal w.level.no-quote r.lines r.tail (r.end - (x.at + 1)) r.content))
-        ∙ ap (λ (d : ℕ). fedAll (fed read d) (drop (r.end + 1) s)) (sym q)
+        let inner = within-quotes c a x f o w.level.refusal w.level.no_quote in
+        let read = content-read c a x f o w.level.refusal w.level.no_quote r.lines r.tail (r.end - (x.at + 1)) r.content in
+        ap (λ (y : Check). fed_all y (drop (r.end + 1) s)) (sym (closes c a x f o w.level.refusal w.level.no_quote r.lines r.tail (r.end - (x.at + 1)) r.content))
+        ∙ ap (λ (d : ℕ). fed_all (fed read d) (drop (r.end + 1) s)) (sym q)
         ∙ fed-at read s r.end u
-        ∙ ap (λ (y : Check). fedAll y (drop r.end s)) (sym (content-is c a x f o w.level.refusal w.level.no-quote r.lines r.tail (r.end - (x.at + 1)) r.content))
-        ∙ b.same inner (within-settled c a x f o w.level.refusal w.level.no-quote)
-        ∙ ap (λ (y : Check). fedAll y (drop (x.at + 1) s)) (sym (opens-quote c a x f o w.level.refusal w.level.no-quote))
-        ∙ ap (λ (d : ℕ). fedAll (fed f d) (drop (x.at + 1) s)) (sym e)
+        ∙ ap (λ (y : Check). fed_all y (drop r.end s)) (sym (content-is c a x f o w.level.refusal w.level.no_quote r.lines r.tail (r.end - (x.at + 1)) r.content))
+        ∙ b.same inner (within-settled c a x f o w.level.refusal w.level.no_quote)
+        ∙ ap (λ (y : Check). fed_all y (drop (x.at + 1) s)) (sym (opens-quote c a x f o w.level.refusal w.level.no_quote))
+        ∙ ap (λ (d : ℕ). fed_all (fed f d) (drop (x.at + 1) s)) (sym e)
         ∙ fed-at f s x.at v
-        ∙ ap (λ (i : ℕ). fedAll f (drop i s)) here
+        ∙ ap (λ (i : ℕ). fed_all f (drop i s)) here
 
-    quoted-stopped : Stopped c s a x after-quotes (stop_at (r.end + 1) r.content (lastLine x.line r) (x.lines + r.lines))
+    quoted-stopped : Stopped c s a x after-quotes (stop_at (r.end + 1) r.content (last_line x.line r) (x.lines + r.lines))
     quoted-stopped =
         let h = line-from (eqb r.lines 0) refl in
         record {
@@ -248,18 +248,18 @@ module _ (c : Check) (s : Bytes) (a : ℕ) (x : Walk) (w : Walking c s a x) wher
           text = omega (arith, w.text, here, b.content);
         }
 
-    pub quoted-field : r.end + 1 < length s → get_or s (r.end + 1) 0 ≡ c.delimiter → Walking c s a (fieldOn x (r.end + 1 + 1) r.content (lastLine x.line r) (x.lines + r.lines))
-    quoted-field n d = walking-field after-quotes (stop_at (r.end + 1) r.content (lastLine x.line r) (x.lines + r.lines)) quoted-stopped n d
+    pub quoted-field : r.end + 1 < length s → get_or s (r.end + 1) 0 ≡ c.delimiter → Walking c s a (field_on x (r.end + 1 + 1) r.content (last_line x.line r) (x.lines + r.lines))
+    quoted-field n d = walking-field after-quotes (stop_at (r.end + 1) r.content (last_line x.line r) (x.lines + r.lines)) quoted-stopped n d
 
     pub quoted-row :
         r.end + 1 + 1 < length s → get_or s (r.end + 1) 0 ≡ 0x0D → get_or s (r.end + 1 + 1) 0 ≡ 0x0A → c.counts.width ≡ x.number + 1
-        → Walking c s a (rowOn x (r.end + 1 + 2) r.content (x.lines + r.lines))
-    quoted-row n d₁ d₂ k = walking-row after-quotes (stop_at (r.end + 1) r.content (lastLine x.line r) (x.lines + r.lines)) quoted-stopped n d₁ d₂ k
+        → Walking c s a (row_on x (r.end + 1 + 2) r.content (x.lines + r.lines))
+    quoted-row n d₁ d₂ k = walking-row after-quotes (stop_at (r.end + 1) r.content (last_line x.line r) (x.lines + r.lines)) quoted-stopped n d₁ d₂ k
 
     pub quoted-lone :
-        r.end + 1 < length s → get_or s (r.end + 1) 0 ≡ 0x0A → loneEnds c ≡ true → c.counts.width ≡ x.number + 1
-        → Walking c s a (rowOn x (r.end + 1 + 1) r.content (x.lines + r.lines))
-    quoted-lone n d y k = walking-lone after-quotes (stop_at (r.end + 1) r.content (lastLine x.line r) (x.lines + r.lines)) quoted-stopped n d y k
+        r.end + 1 < length s → get_or s (r.end + 1) 0 ≡ 0x0A → lone_ends c ≡ true → c.counts.width ≡ x.number + 1
+        → Walking c s a (row_on x (r.end + 1 + 1) r.content (x.lines + r.lines))
+    quoted-lone n d y k = walking-lone after-quotes (stop_at (r.end + 1) r.content (last_line x.line r) (x.lines + r.lines)) quoted-stopped n d y k
 
 -- nothing passed yet
 pub walking_start :
@@ -290,7 +290,7 @@ pub opening-is :
     (x : Walk) (a : ℕ) (c : Check)
     → opening x a c
     ≡ placed (start_of x a c.here)
-    (opened (noting (not (eqb x.number 0)) 0) c.used (newField (start_of x a c.here) (min x.number counterLimit)) (tallied x c.counts) c)
+    (opened (noting (not (eqb x.number 0)) 0) c.used (new_field (start_of x a c.here) (min x.number counter_limit)) (tallied x c.counts) c)
 unfolding opening
 opening-is x a c = refl
 
@@ -298,7 +298,7 @@ opening-is x a c = refl
 pub walked-leads : (c : Check) (s : Bytes) (a : ℕ) (x : Walk) → Walking c s a x → Leading c s a x
 unfolding walked
 walked-leads c s a x w =
-    let o = at-start c s a x w in
+    let o = at_start c s a x w in
     let from = w.from in
     let e : x.start + (x.at - x.start) ≡ x.at = omega arith in
     let d : is_plain (dialect (begun x a c).delimiter (begun x a c).leniencies) ≡ is_plain (dialect c.delimiter c.leniencies) =
@@ -309,7 +309,7 @@ walked-leads c s a x w =
       from = w.from;
       within = λ h. w.within;
       same =
-          ap (λ (i : ℕ). fedAll (texted (x.at - x.start) (begun x a c)) (drop i s)) (sym e)
+          ap (λ (i : ℕ). fed_all (texted (x.at - x.start) (begun x a c)) (drop i s)) (sym e)
           ∙ texted-leads (begun x a c) s x.start (x.at - x.start) (o.refusal ∙ w.level.refusal) o.form (rw d w.plain)
           ∙ w.same;
     }
@@ -322,7 +322,7 @@ still-leads c s a n =
     record { on = omega arith; line = omega arith; from = omega arith; within = λ h. h; same = rw z }
 
 -- any two walks lead to the same
-pub one-walk : (c : Check) (s : Bytes) (a : ℕ) (x y : Walk) → Leading c s a x → Leading c s a y → fedAll (walked x a c) (drop x.at s) ≡ fedAll (walked y a c) (drop y.at s)
+pub one-walk : (c : Check) (s : Bytes) (a : ℕ) (x y : Walk) → Leading c s a x → Leading c s a y → fed_all (walked x a c) (drop x.at s) ≡ fed_all (walked y a c) (drop y.at s)
 one-walk c s a x y g h = g.same ∙ sym h.same
 
 -- from a walk to itself, and to one behind the field that ends at p
@@ -331,28 +331,28 @@ stays delimiter width y s x = record { on = omega arith; goes = λ c d k i a w. 
 
 module _ (delimiter width : ℕ) (y : Bool) (s : Bytes) (x : Walk) (h : Sized x s) where
   module _
-      (p m j l : ℕ) (field : get_or s p 0 ≡ delimiter → Goes delimiter width y s x (fieldOn x (p + 1) m j l))
-      (row : BreakAt s p → x.number + 1 ≡ width → Goes delimiter width y s x (rowOn x (p + 2) m l))
-      (lone : get_or s p 0 ≡ 0x0A → y ≡ true → x.number + 1 ≡ width → Goes delimiter width y s x (rowOn x (p + 1) m l))
+      (p m j l : ℕ) (field : get_or s p 0 ≡ delimiter → Goes delimiter width y s x (field_on x (p + 1) m j l))
+      (row : BreakAt s p → x.number + 1 ≡ width → Goes delimiter width y s x (row_on x (p + 2) m l))
+      (lone : get_or s p 0 ≡ 0x0A → y ≡ true → x.number + 1 ≡ width → Goes delimiter width y s x (row_on x (p + 1) m l))
     where
-      goes-ended : Goes delimiter width y s x (endedBy x (end_at delimiter width y x.number s p) p m j l)
+      goes-ended : Goes delimiter width y s x (ended_by x (end_at delimiter width y x.number s p) p m j l)
       goes-ended = delimited (eqb (get_or s p 0) delimiter) refl
         where
-          ended-alone : (z : Bool) → (y && eqb (get_or s p 0) 0x0A) ≡ z → x.number + 1 ≡ width → Goes delimiter width y s x (endedBy x (cond z 3 0) p m j l)
+          ended-alone : (z : Bool) → (y && eqb (get_or s p 0) 0x0A) ≡ z → x.number + 1 ≡ width → Goes delimiter width y s x (ended_by x (cond z 3 0) p m j l)
           ended-alone true e q = let (u, v) = and_both y (eqb (get_or s p 0) 0x0A) e in lone (eqb-true (get_or s p 0) 0x0A v) u q
           ended-alone false e q = stays delimiter width y s x
 
-          broken : (z : Bool) → isBreak (drop p s) ≡ z → x.number + 1 ≡ width → Goes delimiter width y s x (endedBy x (cond z 2 (cond (y && eqb (get_or s p 0) 0x0A) 3 0)) p m j l)
+          broken : (z : Bool) → is_break (drop p s) ≡ z → x.number + 1 ≡ width → Goes delimiter width y s x (ended_by x (cond z 2 (cond (y && eqb (get_or s p 0) 0x0A) 3 0)) p m j l)
           broken true e q = row (break-at s p e) q
           broken false e q = ended-alone (y && eqb (get_or s p 0) 0x0A) refl q
 
-          last : (z : Bool) → eqb (x.number + 1) width ≡ z → Goes delimiter width y s x (endedBy x (cond z (cond (isBreak (drop p s)) 2 (cond (y && eqb (get_or s p 0) 0x0A) 3 0)) 0) p m j l)
-          last true e = broken (isBreak (drop p s)) refl (eqb-true (x.number + 1) width e)
+          last : (z : Bool) → eqb (x.number + 1) width ≡ z → Goes delimiter width y s x (ended_by x (cond z (cond (is_break (drop p s)) 2 (cond (y && eqb (get_or s p 0) 0x0A) 3 0)) 0) p m j l)
+          last true e = broken (is_break (drop p s)) refl (eqb-true (x.number + 1) width e)
           last false e = stays delimiter width y s x
 
           delimited :
               (z : Bool) → eqb (get_or s p 0) delimiter ≡ z
-              → Goes delimiter width y s x (endedBy x (cond z 1 (cond (eqb (x.number + 1) width) (cond (isBreak (drop p s)) 2 (cond (y && eqb (get_or s p 0) 0x0A) 3 0)) 0)) p m j l)
+              → Goes delimiter width y s x (ended_by x (cond z 1 (cond (eqb (x.number + 1) width) (cond (is_break (drop p s)) 2 (cond (y && eqb (get_or s p 0) 0x0A) 3 0)) 0)) p m j l)
           delimited true e = field (eqb-true (get_or s p 0) delimiter e)
           delimited false e = last (eqb (x.number + 1) width) refl
 
@@ -369,7 +369,7 @@ module _ (delimiter width : ℕ) (y : Bool) (s : Bytes) (x : Walk) (h : Sized x 
 
   -- a bare field
   pub goes-bare :
-      x.at - x.start ≤ contentLimit → Goes delimiter width y s x (endedBy x (end_at delimiter width y x.number s x.at) x.at (x.at - x.start) x.line x.lines)
+      x.at - x.start ≤ content_limit → Goes delimiter width y s x (ended_by x (end_at delimiter width y x.number s x.at) x.at (x.at - x.start) x.line x.lines)
   goes-bare l =
       goes-ended x.at (x.at - x.start) x.line x.lines
       (λ e. record { on = omega arith; goes = λ c d k i a w. bare-field c s a x w l h.inside (e ∙ sym d) })
@@ -383,10 +383,10 @@ module _ (delimiter width : ℕ) (y : Bool) (s : Bytes) (x : Walk) (h : Sized x 
   module _ (r : Inside) (b : Between s (x.at + 1) r) (g : Closed s r) where
     pub goes-quoted :
         x.at ≡ x.start → get_or s x.at 0 ≡ 0x22
-        → Goes delimiter width y s x (endedBy x (end_at delimiter width y x.number s (r.end + 1)) (r.end + 1) r.content (lastLine x.line r) (x.lines + r.lines))
+        → Goes delimiter width y s x (ended_by x (end_at delimiter width y x.number s (r.end + 1)) (r.end + 1) r.content (last_line x.line r) (x.lines + r.lines))
     goes-quoted here opens =
         let inside : r.end < length s = omega (arith, g.behind) in
-        goes-ended (r.end + 1) r.content (lastLine x.line r) (x.lines + r.lines)
+        goes-ended (r.end + 1) r.content (last_line x.line r) (x.lines + r.lines)
         (λ e. record { on = omega (arith, b.on); goes = λ c d k i a w. quoted-field c s a x w here h.inside opens r b g.limit inside g.quote g.behind (e ∙ sym d) })
         (λ e q. record {
           on = omega (arith, b.on);

@@ -9,19 +9,19 @@ use lib.Seq.{drop-drop, drop-append-le}
 use lib.Count.{count_trailing_zeros}
 use Rattle.format.specs.Table.{Bytes}
 use Rattle.steps.specs.Steps.{quoted}
-use Rattle.steps.specs.Numbers.{formNumber}
-use Rattle.runs.specs.Runs.{run, isInner, pairs}
+use Rattle.steps.specs.Numbers.{form_number}
+use Rattle.runs.specs.Runs.{run, is_inner, pairs}
 use Rattle.words.specs.Words.{word, Marks}
 use Rattle.runs.proofs.Runs.{run-add, run-within, pairs-le}
 use Rattle.words.proofs.Words.{Marked, marked-part, marked-none, marked-some}
 use Rattle.state.specs.declared.Check.{Check}
 use Rattle.places.specs.Counters.{spot}
-use Rattle.state.specs.Check.{fedAll, jumped}
+use Rattle.state.specs.Check.{fed_all, jumped}
 use Rattle.state.specs.Settled.{Settled}
 use Rattle.state.proofs.Jumps.{fed-join}
 use Rattle.state.proofs.Between.{Passage, inner_start, inner-line, inner-more, inner-pairs}
 use Rattle.spans.specs.declared.Inside.{Inside}
-use Rattle.spans.specs.Walk.{Between, BetweenFrom, runOn, Further}
+use Rattle.spans.specs.Walk.{Between, BetweenFrom, run_on, Further}
 
 -- a walk between quotes from at, whatever the state
 pub between_start : (s : Bytes) (at : ℕ) → at ≤ length s → Between s at (record { end = at; content = 0; lines = 0; tail = 0 })
@@ -31,16 +31,16 @@ between_start s at h =
 -- any two lead to the same
 pub one_inside :
     (s : Bytes) (at : ℕ) (x y : Inside) → BetweenFrom s at x → BetweenFrom s at y → at ≤ length s → (c : Check) → Settled c
-    → fedAll (jumped (formNumber quoted) (spot x.lines x.tail (x.end - at) c.here) x.content c) (drop x.end s)
-    ≡ fedAll (jumped (formNumber quoted) (spot y.lines y.tail (y.end - at) c.here) y.content c) (drop y.end s)
+    → fed_all (jumped (form_number quoted) (spot x.lines x.tail (x.end - at) c.here) x.content c) (drop x.end s)
+    ≡ fed_all (jumped (form_number quoted) (spot y.lines y.tail (y.end - at) c.here) y.content c) (drop y.end s)
 one_inside s at x y g h i c q = (g.between i).same c q ∙ sym ((h.between i).same c q)
 
 -- such bytes of a part are such bytes of the whole
 module _ (s : Bytes) (n at : ℕ) (r : Inside) (g : Between (take n s) at r) where
-  further-in : (c : Check) (i : ℕ) → i ≤ length (take n s) → fedAll c (drop i s) ≡ fedAll (fedAll c (drop i (take n s))) (drop n s)
+  further-in : (c : Check) (i : ℕ) → i ≤ length (take n s) → fed_all c (drop i s) ≡ fed_all (fed_all c (drop i (take n s))) (drop n s)
   further-in c i h =
-      ap (λ (f : Bytes). fedAll c (drop i f)) (sym (take-append-drop n s))
-      ∙ ap (fedAll c) (drop-append-le i (take n s) (drop n s) h)
+      ap (λ (f : Bytes). fed_all c (drop i f)) (sym (take-append-drop n s))
+      ∙ ap (fed_all c) (drop-append-le i (take n s) (drop n s) h)
       ∙ fed-join c (drop i (take n s)) (drop n s)
 
   pub between-part : Between s at r
@@ -54,8 +54,8 @@ module _ (s : Bytes) (n at : ℕ) (r : Inside) (g : Between (take n s) at r) whe
         flat = g.flat;
         same =
             λ c h.
-            further-in (jumped (formNumber quoted) (spot r.lines r.tail (r.end - at) c.here) r.content c) r.end g.within
-            ∙ ap (λ (x : Check). fedAll x (drop n s)) (g.same c h)
+            further-in (jumped (form_number quoted) (spot r.lines r.tail (r.end - at) c.here) r.content c) r.end g.within
+            ∙ ap (λ (x : Check). fed_all x (drop n s)) (g.same c h)
             ∙ sym (further-in c at (omega (arith, g.on, g.within)));
       }
 
@@ -63,11 +63,11 @@ abbrev passage : ℕ → Inside → Passage
 passage at x = record { from = at; end = x.end; lines = x.lines; tail = x.tail; content = x.content }
 
 module _ (s : Bytes) (at : ℕ) (x : Inside) (g : Between s at x) where
-  pub between_run : (k : ℕ) → k ≤ run isInner (drop x.end s) → Between s at (runOn x k)
+  pub between_run : (k : ℕ) → k ≤ run is_inner (drop x.end s) → Between s at (run_on x k)
   between_run k h =
       record {
         on = omega (arith, g.on);
-        within = run-within isInner s x.end k g.within h;
+        within = run-within is_inner s x.end k g.within h;
         content = omega (arith, g.content);
         lines = omega (arith, g.lines);
         tail = omega (arith, g.tail);
@@ -114,7 +114,7 @@ pub further-pairs :
 further-pairs s x q e = record { on = omega arith; more = λ at g. between-pairs s at x g q e }
 
 -- by a word of marks: the bytes before the first, or all that are left
-module _ (t : List Bool) (marks : Marks t isInner) (s : Bytes) (bytes : (j : ℕ) → get_or s j 0 < 256) (at : ℕ) (x : Inside) (g : Between s at x) (w : ℕ) (h : w ≡ word t (take 16 (drop x.end s))) where
+module _ (t : List Bool) (marks : Marks t is_inner) (s : Bytes) (bytes : (j : ℕ) → get_or s j 0 < 256) (at : ℕ) (x : Inside) (g : Between s at x) (w : ℕ) (h : w ≡ word t (take 16 (drop x.end s))) where
   last : ℕ
   last = x.end + min 16 (length s - x.end)
 
@@ -126,31 +126,31 @@ module _ (t : List Bool) (marks : Marks t isInner) (s : Bytes) (bytes : (j : ℕ
   unfolding last
   last_within = let q = g.within in omega arith
 
-  pub before-mark : (w ≡ 0 → ⊥) → (x.end + count_trailing_zeros 64 w < length s) × (count_trailing_zeros 64 w < 64) × (count_trailing_zeros 64 w ≤ run isInner (drop x.end s))
+  pub before-mark : (w ≡ 0 → ⊥) → (x.end + count_trailing_zeros 64 w < length s) × (count_trailing_zeros 64 w < 64) × (count_trailing_zeros 64 w ≤ run is_inner (drop x.end s))
   unfolding last
   before-mark z =
-      let q = marked-some t isInner marks s bytes last x.end w marked last_within (omega arith) z in
+      let q = marked-some t is_inner marks s bytes last x.end w marked last_within (omega arith) z in
       let q₀ = q.0 in
       let within = g.within in
       (omega arith, omega arith, q.1)
 
   -- without a mark and with less than a block ahead, the bytes go on to the end
-  pub without-mark : w ≡ 0 → run isInner (drop x.end s) < 16 → length s - x.end ≤ run isInner (drop x.end s)
+  pub without-mark : w ≡ 0 → run is_inner (drop x.end s) < 16 → length s - x.end ≤ run is_inner (drop x.end s)
   unfolding last
-  without-mark z r = let q = marked-none t isInner marks s bytes last x.end w marked last_within z in omega arith
+  without-mark z r = let q = marked-none t is_inner marks s bytes last x.end w marked last_within z in omega arith
 
 -- behind whole blocks less than a block is ahead
 pub blocks-on :
-    (s : Bytes) (at : ℕ) (x : Inside) → Between s at x → (k : ℕ) → k ≡ run isInner (drop x.end s) / 16 * 16 → (y : Inside) → y ≡ runOn x k
-    → Between s at y × (run isInner (drop y.end s) < 16)
+    (s : Bytes) (at : ℕ) (x : Inside) → Between s at x → (k : ℕ) → k ≡ run is_inner (drop x.end s) / 16 * 16 → (y : Inside) → y ≡ run_on x k
+    → Between s at y × (run is_inner (drop y.end s) < 16)
 blocks-on s at x g k e y q =
-    let d : run isInner (drop k (drop x.end s)) ≡ run isInner (drop (x.end + k) s) = ap (run isInner) (drop-drop k x.end s) in
-    let all = run-add isInner (drop x.end s) k (run isInner (drop (x.end + k) s)) (omega (arith, e)) (omega (arith, d)) in
+    let d : run is_inner (drop k (drop x.end s)) ≡ run is_inner (drop (x.end + k) s) = ap (run is_inner) (drop-drop k x.end s) in
+    let all = run-add is_inner (drop x.end s) k (run is_inner (drop (x.end + k) s)) (omega (arith, e)) (omega (arith, d)) in
     rw q (between_run s at x g k (omega (arith, e)), omega (arith, all, e))
 
 -- such bytes, and more of them on the same line, cannot carry a count over
-pub run_fits : (s : Bytes) (at : ℕ) (x : Inside) (k : ℕ) → Between s at x → length s < 18446744073709551616 → k ≤ run isInner (drop x.end s)
+pub run_fits : (s : Bytes) (at : ℕ) (x : Inside) (k : ℕ) → Between s at x → length s < 18446744073709551616 → k ≤ run is_inner (drop x.end s)
     → (x.end + k < 18446744073709551616) × (x.content ≤ x.end) × (x.tail ≤ x.end)
 run_fits s at x k g short h =
-    let u = run-within isInner s x.end k g.within h in
+    let u = run-within is_inner s x.end k g.within h in
     (omega arith, omega (arith, g.content), omega (arith, g.tail))

@@ -3,15 +3,15 @@ use Rattle.std.specs.Prelude.{ℕ, ◌+◌, ◌-◌, ◌≤◌, ◌<◌, min, �
 use Rattle.format.specs.declared.Place.{Place}
 use Rattle.format.specs.Table.{Bytes}
 use Rattle.format.specs.Dialect.{lf, names, dialect}
-use Rattle.format.specs.House.{contentLimit}
+use Rattle.format.specs.House.{content_limit}
 use Rattle.steps.specs.Steps.{start, bare, quoted}
-use Rattle.steps.specs.Numbers.{formNumber}
-use Rattle.runs.specs.Runs.{run, is_plain, isBreak}
+use Rattle.steps.specs.Numbers.{form_number}
+use Rattle.runs.specs.Runs.{run, is_plain, is_break}
 use Rattle.format.specs.Memory.{largest32}
-use Rattle.places.specs.Counters.{counterLimit, plus, along, spot}
+use Rattle.places.specs.Counters.{counter_limit, plus, along, spot}
 use Rattle.state.specs.declared.Check.{Check}
 use Rattle.state.specs.declared.Counts.{Counts}
-use Rattle.state.specs.Check.{newField, opened, placed, noting, fedAll, jumped}
+use Rattle.state.specs.Check.{new_field, opened, placed, noting, fed_all, jumped}
 use Rattle.state.specs.Settled.{Settled}
 use Rattle.spans.specs.declared.Inside.{Inside}
 use Rattle.spans.specs.declared.Walk.{Walk}
@@ -24,7 +24,7 @@ pub record Between (s : Bytes) (at : ℕ) (r : Inside) : Type 0 where
   pub lines : at + r.lines ≤ r.end
   pub tail : at + r.tail ≤ r.end
   pub flat : r.lines ≡ 0 → at + r.tail ≡ r.end
-  pub same : (c : Check) → Settled c → fedAll (jumped (formNumber quoted) (spot r.lines r.tail (r.end - at) c.here) r.content c) (drop r.end s) ≡ fedAll c (drop at s)
+  pub same : (c : Check) → Settled c → fed_all (jumped (form_number quoted) (spot r.lines r.tail (r.end - at) c.here) r.content c) (drop r.end s) ≡ fed_all c (drop at s)
 
 -- such bytes from any place on: behind the end none
 pub record BetweenFrom (s : Bytes) (at : ℕ) (r : Inside) : Type 0 where
@@ -32,20 +32,20 @@ pub record BetweenFrom (s : Bytes) (at : ℕ) (r : Inside) : Type 0 where
   pub none : length s < at → r ≡ record { end = at; content = 0; lines = 0; tail = 0 }
 
 -- k bytes more on the same line, and to such bytes as far or further on
-abbrev pub runOn : Inside → ℕ → Inside
-runOn x k = record { end = x.end + k; content = x.content + k; lines = x.lines; tail = x.tail + k }
+abbrev pub run_on : Inside → ℕ → Inside
+run_on x k = record { end = x.end + k; content = x.content + k; lines = x.lines; tail = x.tail + k }
 
 pub record Further (s : Bytes) (x r : Inside) : Type 0 where
   pub on : x.end ≤ r.end
   pub more : (at : ℕ) → Between s at x → Between s at r
 
 -- where the line begins on which they end, if that on which they begin does so at j
-abbrev pub lastLine : ℕ → Inside → ℕ
-lastLine j r = cond (eqb r.lines 0) j (r.end - r.tail)
+abbrev pub last_line : ℕ → Inside → ℕ
+last_line j r = cond (eqb r.lines 0) j (r.end - r.tail)
 
 -- such bytes are the content of a field: a quote closes it, with a byte behind
 pub record Closed (s : Bytes) (r : Inside) : Type 0 where
-  pub limit : r.content ≤ contentLimit
+  pub limit : r.content ≤ content_limit
   pub behind : r.end + 1 < length s
   pub quote : get_or s r.end 0 ≡ 0x22
 
@@ -53,39 +53,39 @@ pub record Closed (s : Bytes) (r : Inside) : Type 0 where
 pub record Level (c : Check) (s : Bytes) : Type 0 where
   pub short : length s ≤ largest32
   pub refusal : c.refusal ≡ 0
-  pub form : c.form ≡ formNumber start
+  pub form : c.form ≡ form_number start
   pub content : c.field.content ≡ 0
   pub held : c.field.held ≡ 0
-  pub no-cr : c.delimiter ≡ 0x0D → ⊥
-  pub no-lf : c.delimiter ≡ 0x0A → ⊥
-  pub no-quote : c.delimiter ≡ 0x22 → ⊥
-  pub line : c.here.line.0 ≤ counterLimit
-  pub records : c.counts.records ≤ counterLimit
-  pub width : c.counts.width ≤ counterLimit
+  pub no_cr : c.delimiter ≡ 0x0D → ⊥
+  pub no_lf : c.delimiter ≡ 0x0A → ⊥
+  pub no_quote : c.delimiter ≡ 0x22 → ⊥
+  pub line : c.here.line.0 ≤ counter_limit
+  pub records : c.counts.records ≤ counter_limit
+  pub width : c.counts.width ≤ counter_limit
 
 -- a walk at another place of the field in work, behind a field, and behind a record
 abbrev pub placed_at : Walk → ℕ → Walk
 placed_at x p = record { at = p; line = x.line; lines = x.lines; start = x.start; rows = x.rows; fields = x.fields; number = x.number; text = x.text }
 
-abbrev pub fieldOn : Walk → ℕ → ℕ → ℕ → ℕ → Walk
-fieldOn x next m line l = record { at = next; line = line; lines = l; start = next; rows = x.rows; fields = x.fields + 1; number = x.number + 1; text = x.text + m }
+abbrev pub field_on : Walk → ℕ → ℕ → ℕ → ℕ → Walk
+field_on x next m line l = record { at = next; line = line; lines = l; start = next; rows = x.rows; fields = x.fields + 1; number = x.number + 1; text = x.text + m }
 
-abbrev pub rowOn : Walk → ℕ → ℕ → ℕ → Walk
-rowOn x next m l = record { at = next; line = next; lines = l + 1; start = next; rows = x.rows + 1; fields = x.fields + 1; number = 0; text = x.text + m }
+abbrev pub row_on : Walk → ℕ → ℕ → ℕ → Walk
+row_on x next m l = record { at = next; line = next; lines = l + 1; start = next; rows = x.rows + 1; fields = x.fields + 1; number = 0; text = x.text + m }
 
 -- an LF alone ends a record, and one did before, so that nothing is left to note of it
-abbrev pub loneEnds : Check → Bool
-loneEnds c = names c.leniencies lf && eqb c.used.lf 1
+abbrev pub lone_ends : Check → Bool
+lone_ends c = names c.leniencies lf && eqb c.used.lf 1
 
 -- what ends a field at p, the number of which is n: 1 a delimiter; behind as many fields as a width 2 a line break, 3 an LF alone, where y says that it does; 0
 -- nothing such
 abbrev pub end_at : ℕ → ℕ → Bool → ℕ → Bytes → ℕ → ℕ
 end_at delimiter width y n s p =
-    cond (eqb (get_or s p 0) delimiter) 1 (cond (eqb (n + 1) width) (cond (isBreak (drop p s)) 2 (cond (y && eqb (get_or s p 0) 0x0A) 3 0)) 0)
+    cond (eqb (get_or s p 0) delimiter) 1 (cond (eqb (n + 1) width) (cond (is_break (drop p s)) 2 (cond (y && eqb (get_or s p 0) 0x0A) 3 0)) 0)
 
 -- a walk behind what ends the field in work so at p, with m bytes of content, on a line that begins at j, behind l line feeds; or where it stands
-abbrev pub endedBy : Walk → ℕ → ℕ → ℕ → ℕ → ℕ → Walk
-endedBy x n p m j l = cond (eqb n 1) (fieldOn x (p + 1) m j l) (cond (eqb n 2) (rowOn x (p + 2) m l) (cond (eqb n 3) (rowOn x (p + 1) m l) x))
+abbrev pub ended_by : Walk → ℕ → ℕ → ℕ → ℕ → ℕ → Walk
+ended_by x n p m j l = cond (eqb n 1) (field_on x (p + 1) m j l) (cond (eqb n 2) (row_on x (p + 2) m l) (cond (eqb n 3) (row_on x (p + 1) m l) x))
 
 -- no count of it carries over
 pub record Fits (x : Walk) (p m l : ℕ) : Type 0 where
@@ -112,7 +112,7 @@ tallied x s =
 unfoldable pub opening : Walk → ℕ → Check → Check
 opening x a c =
     placed (start_of x a c.here)
-    (opened (noting (not (eqb x.number 0)) 0) c.used (newField (start_of x a c.here) (min x.number counterLimit)) (tallied x c.counts) c)
+    (opened (noting (not (eqb x.number 0)) 0) c.used (new_field (start_of x a c.here) (min x.number counter_limit)) (tallied x c.counts) c)
 
 -- where the field in work begins: where the walk does, while no field is closed
 abbrev pub begun : Walk → ℕ → Check → Check
@@ -120,7 +120,7 @@ begun x a c = cond (eqb x.fields 0) c (opening x a c)
 
 -- m bytes of text further on
 abbrev pub texted : ℕ → Check → Check
-texted m c = cond (eqb m 0) c (jumped (formNumber bare) (along m c.here) m c)
+texted m c = cond (eqb m 0) c (jumped (form_number bare) (along m c.here) m c)
 
 unfoldable pub walked : Walk → ℕ → Check → Check
 walked x a c = texted (x.at - x.start) (begun x a c)
@@ -158,12 +158,12 @@ pub record Walking (c : Check) (s : Bytes) (a : ℕ) (x : Walk) : Type 0 where
   pub number : x.number ≤ largest32 + x.start
   pub unmoved : x.fields ≡ 0 → Unmoved c a x
   pub plain : x.at - x.start ≤ run (is_plain (dialect c.delimiter c.leniencies)) (drop x.start s)
-  pub same : fedAll (begun x a c) (drop x.start s) ≡ fedAll c (drop a s)
+  pub same : fed_all (begun x a c) (drop x.start s) ≡ fed_all c (drop a s)
 
 -- from a walk to one as far or further on, for every state of a delimiter and of a width of records, and in which an LF alone ends one or does not
 pub record Goes (delimiter width : ℕ) (y : Bool) (s : Bytes) (x r : Walk) : Type 0 where
   pub on : x.at ≤ r.at
-  pub goes : (c : Check) → c.delimiter ≡ delimiter → c.counts.width ≡ width → loneEnds c ≡ y → (a : ℕ) → Walking c s a x → Walking c s a r
+  pub goes : (c : Check) → c.delimiter ≡ delimiter → c.counts.width ≡ width → lone_ends c ≡ y → (a : ℕ) → Walking c s a x → Walking c s a r
 
 -- a walk from a place on leads from the state that it comes to where the state c led, for every state and place
 pub record Leading (c : Check) (s : Bytes) (a : ℕ) (x : Walk) : Type 0 where
@@ -171,4 +171,4 @@ pub record Leading (c : Check) (s : Bytes) (a : ℕ) (x : Walk) : Type 0 where
   pub line : x.line ≤ x.start
   pub from : x.start ≤ x.at
   pub within : a ≤ length s → x.at ≤ length s
-  pub same : fedAll (walked x a c) (drop x.at s) ≡ fedAll c (drop a s)
+  pub same : fed_all (walked x a c) (drop x.at s) ≡ fed_all c (drop a s)

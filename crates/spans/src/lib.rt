@@ -6,8 +6,8 @@ ghost use Rattle.std.specs.Prelude.{◌+◌, ◌≤◌, ◌<◌, true, ◌≡◌
 ghost use Rattle.format.specs.Dialect.{dialect};
 ghost use Rattle.format.specs.Memory.{largest32};
 ghost use Rattle.words.specs.Words.{Marks, Stops};
-ghost use Rattle.spans.specs.Walk.{BetweenFrom, Between, runOn, Further, lastLine, Level, placed_at, fieldOn, rowOn, Closed, end_at, endedBy, Fits, Sized, Walking, Goes, Leading, loneEnds};
-ghost use Rattle.runs.specs.Runs.{isInner};
+ghost use Rattle.spans.specs.Walk.{BetweenFrom, Between, run_on, Further, last_line, Level, placed_at, field_on, row_on, Closed, end_at, ended_by, Fits, Sized, Walking, Goes, Leading, lone_ends};
+ghost use Rattle.runs.specs.Runs.{is_inner};
 
 use state::Check;
 
@@ -103,7 +103,7 @@ fn is_level(check: Check, s: &[u8]) -> bool
 
 // Whether an LF alone ends a record, and one did before, so that the walk has nothing to note of it.
 fn is_alone(check: Check) -> bool
-    ensures { result ≡ loneEnds check }
+    ensures { result ≡ lone_ends check }
 {
     let lf = steps::allows_lf(check.leniencies);
     lf & (check.used.lf == 1)
@@ -120,8 +120,8 @@ fn walk_on(
     at: usize,
 ) -> Walk
     requires at_in_bounds { at ≤ length s.now }
-    requires marks { Marks inner.now isInner }
-    requires level { Level check s.now × Stops t.now (dialect check.delimiter check.leniencies) × (alone ≡ loneEnds check) }
+    requires marks { Marks inner.now is_inner }
+    requires level { Level check s.now × Stops t.now (dialect check.delimiter check.leniencies) × (alone ≡ lone_ends check) }
     ensures { Walking check s.now at result }
 {
     let mut x = start_of(check.field.number.0, at);
@@ -146,7 +146,7 @@ fn walk_on(
 // A walk behind the field that ends at the mark where it stands, and behind what ends it; or where it
 // stands.
 fn at_mark(delimiter: u8, width: u32, alone: bool, inner: &[bool; 256], x: Walk, s: &[u8]) -> Walk
-    requires marks { Marks inner.now isInner }
+    requires marks { Marks inner.now is_inner }
     requires sized { Sized x s.now }
     ensures { Goes delimiter width alone s.now x result }
 {
@@ -164,7 +164,7 @@ fn at_mark(delimiter: u8, width: u32, alone: bool, inner: &[bool; 256], x: Walk,
 
 // The same where the field begins with a quote at the mark.
 fn at_quote(delimiter: u8, width: u32, alone: bool, inner: &[bool; 256], x: Walk, s: &[u8]) -> Walk
-    requires marks { Marks inner.now isInner }
+    requires marks { Marks inner.now is_inner }
     requires sized { Sized x s.now × (get_or s.now x.at 0 ≡ 0x22) }
     ensures { Goes delimiter width alone s.now x result }
 {
@@ -222,7 +222,7 @@ fn end_at(delimiter: u8, width: u32, alone: bool, number: usize, s: &[u8], at: u
 // place and behind so many line feeds; or where it stands.
 fn ended_by(x: Walk, n: usize, at: usize, content: usize, line: usize, lines: usize) -> Walk
     requires { Fits x at content lines }
-    ensures { result ≡ endedBy x n at content line lines }
+    ensures { result ≡ ended_by x n at content line lines }
 {
     if n == 1 {
         return field_on(x, at + 1, content, line, lines);
@@ -249,7 +249,7 @@ fn placed_at(x: Walk, at: usize) -> Walk
 // place and behind so many line feeds.
 fn field_on(x: Walk, next: usize, content: usize, line: usize, lines: usize) -> Walk
     requires { (x.fields < 18446744073709551615) × (x.number < 18446744073709551615) × (x.text + content < 18446744073709551616) }
-    ensures { result ≡ fieldOn x next content line lines }
+    ensures { result ≡ field_on x next content line lines }
 {
     Walk {
         at: next,
@@ -266,7 +266,7 @@ fn field_on(x: Walk, next: usize, content: usize, line: usize, lines: usize) -> 
 // A walk behind the last field of a record, where the next one begins.
 fn row_on(x: Walk, next: usize, content: usize, lines: usize) -> Walk
     requires { (x.fields < 18446744073709551615) × (x.rows < 18446744073709551615) × (x.text + content < 18446744073709551616) × (lines < 18446744073709551615) }
-    ensures { result ≡ rowOn x next content lines }
+    ensures { result ≡ row_on x next content lines }
 {
     Walk {
         at: next,
@@ -284,7 +284,7 @@ fn row_on(x: Walk, next: usize, content: usize, lines: usize) -> Walk
 // blocks of bytes, then a word that marks what is no such byte.
 fn inside_from(t: &[bool; 256], s: &[u8], at: usize) -> Inside
     requires at_in_bounds { at ≤ length s.now }
-    requires marks { Marks t.now isInner }
+    requires marks { Marks t.now is_inner }
     ensures { Between s.now at result }
 {
     let mut x = Inside {
@@ -313,7 +313,7 @@ fn inside_from(t: &[bool; 256], s: &[u8], at: usize) -> Inside
 // Such bytes and k more of one line.
 fn run_on(x: Inside, k: usize) -> Inside
     requires { (x.end + k < 18446744073709551616) × (x.content ≤ x.end) × (x.tail ≤ x.end) }
-    ensures { result ≡ runOn x k }
+    ensures { result ≡ run_on x k }
 {
     Inside {
         end: x.end + k,
@@ -349,7 +349,7 @@ fn stop_on(x: Inside, s: &[u8]) -> Inside
 // The same, no further than the content of one field can go: what is longer is refused, however it ends.
 fn inside_field(t: &[bool; 256], s: &[u8], at: usize) -> Inside
     requires at_in_bounds { at ≤ length s.now }
-    requires marks { Marks t.now isInner }
+    requires marks { Marks t.now is_inner }
     ensures { Between s.now at result }
 {
     inside_from(t, &s[0..reach(s, at)], at)
@@ -370,7 +370,7 @@ fn reach(s: &[u8], at: usize) -> usize
 // Where the line begins on which such bytes end, if that on which they begin does so at a place.
 fn last_line(line: usize, q: Inside) -> usize
     requires { q.tail ≤ q.end }
-    ensures { result ≡ lastLine line q }
+    ensures { result ≡ last_line line q }
 {
     if q.lines == 0 { line } else { q.end - q.tail }
 }

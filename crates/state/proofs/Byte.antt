@@ -5,15 +5,15 @@ use mathlib.Core.Bool.{Bool, true, false, cond, ◌||◌}
 use lib.Dec.{eqb, leb}
 use borrow.Author.Tests.{leb-true, leb-false, eq-eqb}
 use Rattle.format.specs.declared.Place.{Place}
-use Rattle.format.specs.Dialect.{lf, ragged, names, dialect, classOf}
-use Rattle.format.specs.House.{contentLimit}
+use Rattle.format.specs.Dialect.{lf, ragged, names, dialect, class_of}
+use Rattle.format.specs.House.{content_limit}
 use Rattle.format.proofs.Classes.{decide}
-use Rattle.steps.specs.Steps.{start, nothing, put, hold, drop, field_end, record-end, Act, refuse, go, step_of}
-use Rattle.steps.specs.Numbers.{formNumber, form_of, coded}
+use Rattle.steps.specs.Steps.{start, nothing, put, hold, drop, field_end, record_end, Act, refuse, go, step_of}
+use Rattle.steps.specs.Numbers.{form_number, form_of, coded}
 use Rattle.places.specs.Counters.{plus, moved}
 use Rattle.state.specs.declared.Used.{Used}
 use Rattle.state.specs.declared.Check.{Check}
-use Rattle.state.specs.Check.{stopped, entered, opened, placed, noted, fieldEnded, widthHere, evenly, recordEnded, stepped, fed}
+use Rattle.state.specs.Check.{stopped, entered, opened, placed, noted, field_ended, width_here, evenly, record_ended, stepped, fed}
 
 -- it leads to the form k inside the field, which then has m bytes of content and h blanks held
 pub record Within (c : Check) (k m h : ℕ) (e : Check) : Type 0 where
@@ -27,9 +27,9 @@ pub record Within (c : Check) (k m h : ℕ) (e : Check) : Type 0 where
 
 -- it ends the field, and the next one begins; u says whether in the same record
 pub record Over (c : Check) (u : ℕ) (e : Check) : Type 0 where
-  pub short : c.field.content ≤ contentLimit
+  pub short : c.field.content ≤ content_limit
   pub refusal : e.refusal ≡ c.refusal
-  pub form : e.form ≡ formNumber start
+  pub form : e.form ≡ form_number start
   pub begun : e.begun ≡ u
   pub content : e.field.content ≡ 0
   pub held : e.field.held ≡ 0
@@ -49,59 +49,59 @@ pub record RecordOver (c e : Check) : Type 0 where
   pub even : (names c.leniencies ragged || evenly c) ≡ true
   pub number : e.field.number.0 ≡ 0
   pub records : e.counts.records ≡ plus c.counts.records 1
-  pub width : e.counts.width ≡ cond (eqb c.counts.width 0) (widthHere c) c.counts.width
+  pub width : e.counts.width ≡ cond (eqb c.counts.width 0) (width_here c) c.counts.width
 
 -- where a field, or a record, is to end
 pub data FieldEnds (c : Check) : Check → Type 0 where
   ends : {e : Check} → FieldOver c e → FieldEnds c e
-  long : {e : Check} → contentLimit < c.field.content → e.refusal ≡ 9 → FieldEnds c e
+  long : {e : Check} → content_limit < c.field.content → e.refusal ≡ 9 → FieldEnds c e
 
 pub data RecordEnds (c : Check) : Check → Type 0 where
   ends : {e : Check} → RecordOver c e → RecordEnds c e
-  long : {e : Check} → contentLimit < c.field.content → e.refusal ≡ 9 → RecordEnds c e
-  uneven : {e : Check} → c.field.content ≤ contentLimit → (names c.leniencies ragged || evenly c) ≡ false → e.refusal ≡ 10 → RecordEnds c e
+  long : {e : Check} → content_limit < c.field.content → e.refusal ≡ 9 → RecordEnds c e
+  uneven : {e : Check} → c.field.content ≤ content_limit → (names c.leniencies ragged || evenly c) ≡ false → e.refusal ≡ 10 → RecordEnds c e
 
 -- what each act makes of c
 abbrev pub Does : Check → Act → Check → Type 0
 Does c (refuse n) e = e.refusal ≡ n
-Does c (go j nothing) e = Within c (formNumber j) c.field.content c.field.held e
-Does c (go j put) e = Within c (formNumber j) (plus (plus c.field.content c.field.held) 1) 0 e
-Does c (go j hold) e = Within c (formNumber j) c.field.content (plus c.field.held 1) e
-Does c (go j drop) e = Within c (formNumber j) c.field.content c.field.held e
+Does c (go j nothing) e = Within c (form_number j) c.field.content c.field.held e
+Does c (go j put) e = Within c (form_number j) (plus (plus c.field.content c.field.held) 1) 0 e
+Does c (go j hold) e = Within c (form_number j) c.field.content (plus c.field.held 1) e
+Does c (go j drop) e = Within c (form_number j) c.field.content c.field.held e
 Does c (go j field_end) e = FieldEnds c e
-Does c (go j record-end) e = RecordEnds c e
+Does c (go j record_end) e = RecordEnds c e
 
 -- the act of a byte
-abbrev pub actOf : Check → ℕ → Act
-actOf c b = step_of (names c.leniencies lf) (form_of c.form) (classOf (dialect c.delimiter c.leniencies) b)
+abbrev pub act_of : Check → ℕ → Act
+act_of c b = step_of (names c.leniencies lf) (form_of c.form) (class_of (dialect c.delimiter c.leniencies) b)
 
 module _ (c : Check) (v : Used) (p : Place) where
-  field-does : FieldEnds c (placed p (fieldEnded v p c))
-  unfolding fieldEnded placed opened stopped
+  field-does : FieldEnds c (placed p (field_ended v p c))
+  unfolding field_ended placed opened stopped
   field-does =
-      decide (λ (e : Check). FieldEnds c (placed p e)) (leb c.field.content contentLimit)
+      decide (λ (e : Check). FieldEnds c (placed p e)) (leb c.field.content content_limit)
       (λ l. FieldEnds.ends (record {
-        over = record { short = leb-true c.field.content contentLimit l; refusal = refl; form = refl; begun = refl; content = refl; held = refl; text = refl; fields = refl };
+        over = record { short = leb-true c.field.content content_limit l; refusal = refl; form = refl; begun = refl; content = refl; held = refl; text = refl; fields = refl };
         number = refl;
         records = refl;
         width = refl;
       }))
-      (λ l. FieldEnds.long (leb-false c.field.content contentLimit l) refl)
+      (λ l. FieldEnds.long (leb-false c.field.content content_limit l) refl)
 
-  pub record-does : (at : Place) (l : Bool) → RecordEnds c (recordEnded v at p l c)
-  unfolding recordEnded opened stopped
+  pub record-does : (at : Place) (l : Bool) → RecordEnds c (record_ended v at p l c)
+  unfolding record_ended opened stopped
   record-does at z =
-      decide (RecordEnds c) (leb c.field.content contentLimit)
+      decide (RecordEnds c) (leb c.field.content content_limit)
       (λ l. decide (RecordEnds c) (names c.leniencies ragged || evenly c)
       (λ y. RecordEnds.ends (record {
-        over = record { short = leb-true c.field.content contentLimit l; refusal = refl; form = refl; begun = refl; content = refl; held = refl; text = refl; fields = refl };
+        over = record { short = leb-true c.field.content content_limit l; refusal = refl; form = refl; begun = refl; content = refl; held = refl; text = refl; fields = refl };
         even = y;
         number = refl;
         records = refl;
         width = refl;
       }))
-      (λ y. RecordEnds.uneven (leb-true c.field.content contentLimit l) y refl))
-      (λ l. RecordEnds.long (leb-false c.field.content contentLimit l) refl)
+      (λ y. RecordEnds.uneven (leb-true c.field.content content_limit l) y refl))
+      (λ l. RecordEnds.long (leb-false c.field.content content_limit l) refl)
 
   -- which says nothing of the place
   record-placed : {e : Check} → RecordEnds c e → RecordEnds c (placed p e)
@@ -126,8 +126,8 @@ module _ (c : Check) (v : Used) (p : Place) where
   by-act (go j hold) = record { refusal = refl; form = refl; begun = refl; content = refl; held = refl; number = refl; counts = refl }
   by-act (go j drop) = record { refusal = refl; form = refl; begun = refl; content = refl; held = refl; number = refl; counts = refl }
   by-act (go j field_end) = field-does
-  by-act (go j record-end) = record-placed (record-does _ _)
+  by-act (go j record_end) = record-placed (record-does _ _)
 
-pub fed-does : (c : Check) (b : ℕ) → c.refusal ≡ 0 → Does c (actOf c b) (fed c b)
+pub fed-does : (c : Check) (b : ℕ) → c.refusal ≡ 0 → Does c (act_of c b) (fed c b)
 unfolding fed
-fed-does c b z = rw (eq-eqb c.refusal 0 z) (by-act c (noted b c) (moved b c.here) (actOf c b))
+fed-does c b z = rw (eq-eqb c.refusal 0 z) (by-act c (noted b c) (moved b c.here) (act_of c b))

@@ -9,31 +9,31 @@ use lib.ListN.{length, length-append}
 use borrow.Author.Tests.{eqb-true, eqb-false, eq-eqb, ne_eqb}
 use Rattle.format.specs.declared.Place.{Place}
 use Rattle.format.specs.Table.{Bytes}
-use Rattle.format.specs.Dialect.{onlyWide, ragged, names, Dialect, dialect}
-use Rattle.format.specs.House.{contentLimit, fileLimit}
+use Rattle.format.specs.Dialect.{only_wide, ragged, names, Dialect, dialect}
+use Rattle.format.specs.House.{content_limit, file_limit}
 use Rattle.format.specs.Count.{some}
 use Rattle.format.specs.Place.{place, place_of, nowhere}
 use Rattle.format.proofs.Places.{place-first}
-use Rattle.steps.specs.Steps.{Form, start, lead, bare, quoted, shut, tail, cr, Out, nothing, put, hold, drop, field_end, record-end, Act, refuse, go, inQuotes, behindCr}
+use Rattle.steps.specs.Steps.{Form, start, lead, bare, quoted, shut, tail, cr, Out, nothing, put, hold, drop, field_end, record_end, Act, refuse, go, is_in_quotes, is_behind_cr}
 use Rattle.steps.specs.Model.{anchor, seen, agrees}
-use Rattle.steps.specs.Numbers.{formNumber, coded}
+use Rattle.steps.specs.Numbers.{form_number, coded}
 use Rattle.steps.proofs.Numbers.{behind-number}
-use Rattle.steps.proofs.Tallies.{Flags, Account, Work, widthFrom, even, Ans, stop, gives, fieldOn, recordOn, fieldUp, recordUp, field-up, record-up, agrees-even}
-use Rattle.steps.proofs.Forward.{Point, inside, opening, none, putOn, holdOn, dropOn, ended, acting, keeps, Fits}
+use Rattle.steps.proofs.Tallies.{Flags, Account, Work, width_from, even, Ans, stop, gives, field_on, record_on, field_up, record_up, field-up, record-up, agrees-even}
+use Rattle.steps.proofs.Forward.{Point, inside, opening, none, put_on, hold_on, drop_on, ended, acting, keeps, Fits}
 use Rattle.state.specs.declared.Used.{Used}
 use Rattle.state.specs.declared.Check.{Check}
 use Rattle.places.specs.Counters.{plus}
-use Rattle.state.specs.Check.{started, stopped, entered, opened, placed, noting, noted, fieldEnded, recordEnded, stepped}
+use Rattle.state.specs.Check.{started, stopped, entered, opened, placed, noting, noted, field_ended, record_ended, stepped}
 
 -- the dialect bytes, and a file within its limit
 pub record Source : Type 0 where
   pub delimiter : ℕ
   pub leniencies : ℕ
   pub file : Bytes
-  pub small : length file ≤ fileLimit
+  pub small : length file ≤ file_limit
 
-abbrev pub dialectOf : Source → Dialect
-dialectOf z = dialect z.delimiter z.leniencies
+abbrev pub dialect_of : Source → Dialect
+dialect_of z = dialect z.delimiter z.leniencies
 
 -- a point of the model, whether "bytes" was used, and the anchor's place
 pub record Running : Type 0 where
@@ -50,8 +50,8 @@ noting-num : (x w : Bool) → noting x (num w) ≡ num (x || w)
 noting-num true w = refl
 noting-num false w = refl
 
-abbrev pub usedOf : Flags → Bool → Used
-usedOf v y = record { lf = num v.lf; blanks = num v.blanks; ragged = num v.ragged; bytes = num y }
+abbrev pub used_of : Flags → Bool → Used
+used_of v y = record { lf = num v.lf; blanks = num v.blanks; ragged = num v.ragged; bytes = num y }
 
 -- its state, before the rest g of the file
 abbrev pub going : Source → Bytes → Running → Check
@@ -62,9 +62,9 @@ going z g r =
       delimiter = z.delimiter;
       leniencies = z.leniencies;
       refusal = 0;
-      form = formNumber r.point.form;
+      form = form_number r.point.form;
       begun = num r.point.begun;
-      used = usedOf a.flags r.wide;
+      used = used_of a.flags r.wide;
       here = place_of z.file g;
       anchor = r.anchor;
       field = record { start = place_of z.file a.start; content = w.content; held = w.held; number = record { 0 = a.number } };
@@ -93,8 +93,8 @@ pub record At (z : Source) (s g : Bytes) (r : Running) : Type 0 where
   pub anchored : Anchored z.file r.point.form r.point.anchor r.anchor
   pub within : CountersWithin (length s) r.point.work
 
-pub before-limit : {z : Source} {s g : Bytes} {r : Running} → At z s g r → length s + length g ≤ fileLimit
-before-limit {z} {s} {g} at = omega (arith, ap length at.split ∙ length-append s g, z.small)
+pub before_limit : {z : Source} {s g : Bytes} {r : Running} → At z s g r → length s + length g ≤ file_limit
+before_limit {z} {s} {g} at = omega (arith, ap length at.split ∙ length-append s g, z.small)
 
 -- the code's test of a width is the model's
 eqb-turn : (a b : ℕ) → eqb a b ≡ eqb b a
@@ -129,18 +129,18 @@ module _ {z : Source} {s g : Bytes} {r : Running} (at : At z s g r) (y : Bool) (
   a = w.account
 
   one_more : plus a.number 1 ≡ suc a.number
-  one_more = omega (arith, at.within, before-limit at)
+  one_more = omega (arith, at.within, before_limit at)
 
   more-fields : plus a.sums.fields 1 ≡ a.sums.fields + 1
-  more-fields = omega (arith, at.within, before-limit at)
+  more-fields = omega (arith, at.within, before_limit at)
 
   more-text : plus a.sums.text w.content ≡ a.sums.text + w.content
-  more-text = omega (arith, at.within, before-limit at)
+  more-text = omega (arith, at.within, before_limit at)
 
-  field-ended : fieldEnded (usedOf a.flags y) (place_of z.file f) (going z g r) ≡ made z g r (anew y) (fieldUp (ended w) (gives (opening true (fieldOn f (ended w)))))
-  unfolding fieldEnded opened
+  field-ended : field_ended (used_of a.flags y) (place_of z.file f) (going z g r) ≡ made z g r (anew y) (field_up (ended w) (gives (opening true (field_on f (ended w)))))
+  unfolding field_ended opened
   field-ended =
-      made-cond z g r (anew y) _ (leb w.content contentLimit) _ (gives (opening true (fieldOn f (ended w)))) 9 a.start refl
+      made-cond z g r (anew y) _ (leb w.content content_limit) _ (gives (opening true (field_on f (ended w)))) 9 a.start refl
       (rw (noting-num (some w.held) a.flags.blanks, one_more, more-fields, more-text))
 
   even_is : (eqb a.width 0 || eqb a.width (plus a.number 1)) ≡ even a.width (suc a.number)
@@ -148,24 +148,24 @@ module _ {z : Source} {s g : Bytes} {r : Running} (at : At z s g r) (y : Bool) (
 
   pub record-ended :
       (p : Bytes) (l : Bool)
-      → recordEnded (usedOf a.flags y) (place_of z.file p) (place_of z.file f) l (going z g r)
-      ≡ made z g r (anew y) (recordUp (dialectOf z) (ended w) p (gives (opening false (recordOn l f (ended w)))))
-  unfolding recordEnded opened
+      → record_ended (used_of a.flags y) (place_of z.file p) (place_of z.file f) l (going z g r)
+      ≡ made z g r (anew y) (record_up (dialect_of z) (ended w) p (gives (opening false (record_on l f (ended w)))))
+  unfolding record_ended opened
   record-ended p l =
-      let n : plus a.sums.records 1 ≡ a.sums.records + 1 = omega (arith, at.within, before-limit at) in
-      let next : Ans Point = gives (opening false (recordOn l f (ended w))) in
-      let wide = agrees (dialectOf z) (widthFrom a.width) (suc a.number) in
-      made-cond z g r (anew y) _ (leb w.content contentLimit) _ (cond wide next (stop 10 p)) 9 a.start refl
+      let n : plus a.sums.records 1 ≡ a.sums.records + 1 = omega (arith, at.within, before_limit at) in
+      let next : Ans Point = gives (opening false (record_on l f (ended w))) in
+      let wide = agrees (dialect_of z) (width_from a.width) (suc a.number) in
+      made-cond z g r (anew y) _ (leb w.content content_limit) _ (cond wide next (stop 10 p)) 9 a.start refl
       (made-cond z g r (anew y) _ wide _ next 10 p
-      (ap (λ (e : Bool). names z.leniencies ragged || e) even_is ∙ agrees-even (dialectOf z) a.width a.number)
+      (ap (λ (e : Bool). names z.leniencies ragged || e) even_is ∙ agrees-even (dialect_of z) a.width a.number)
       (rw (even_is, noting-num l a.flags.lf, noting-num (some w.held) a.flags.blanks, noting-num (not (even a.width (suc a.number))) a.flags.ragged, one_more, n, more-fields, more-text)))
 
 -- forms, by the code and by the model: the place of a break or a fault, and the anchor behind an act
 module _ (F here p : Bytes) (q : Place) where
-  seen-is : (k : Form) → Anchored F k p q → cond (leb (formNumber cr) (formNumber k)) q (place_of F here) ≡ place_of F (seen k here p)
+  seen-is : (k : Form) → Anchored F k p q → cond (leb (form_number cr) (form_number k)) q (place_of F here) ≡ place_of F (seen k here p)
   seen-is = elim [ start ↦ λ i. refl | lead ↦ λ i. refl | bare ↦ λ i. refl | quoted ↦ λ i. refl | shut ↦ λ i. refl | tail ↦ λ i. refl | cr ↦ λ i. i ]
 
-  quotes : (k : Form) → Anchored F k p q → cond (inQuotes k) q (place_of F here) ≡ place_of F (cond (inQuotes k) p here)
+  quotes : (k : Form) → Anchored F k p q → cond (is_in_quotes k) q (place_of F here) ≡ place_of F (cond (is_in_quotes k) p here)
   quotes = elim [ start ↦ λ i. refl | lead ↦ λ i. refl | bare ↦ λ i. refl | quoted ↦ λ i. i | shut ↦ λ i. i | tail ↦ λ i. refl | cr ↦ λ i. refl ]
 
   anchor-on : (k j : Form) (o : Out) → Fits k (go j o) → Anchored F k p q → Anchored F j (anchor k j here p) (cond (keeps j o) q (place_of F here))
@@ -178,20 +178,20 @@ module _ (F here p : Bytes) (q : Place) where
   anchor-on k cr o e i = rw e
 
 -- what an act adds to its point, at the byte b before f
-abbrev pub wideOn : Source → ℕ → Running → Bool
-wideOn z b r = onlyWide z.delimiter b || r.wide
+abbrev pub wide_on : Source → ℕ → Running → Bool
+wide_on z b r = only_wide z.delimiter b || r.wide
 
-abbrev anchorOf : Act → Place → Place → Place
-anchorOf (refuse n) here q = q
-anchorOf (go j nothing) here q = cond (keeps j nothing) q here
-anchorOf (go j put) here q = q
-anchorOf (go j hold) here q = q
-anchorOf (go j drop) here q = q
-anchorOf (go j field_end) here q = nowhere
-anchorOf (go j record-end) here q = nowhere
+abbrev anchor_of : Act → Place → Place → Place
+anchor_of (refuse n) here q = q
+anchor_of (go j nothing) here q = cond (keeps j nothing) q here
+anchor_of (go j put) here q = q
+anchor_of (go j hold) here q = q
+anchor_of (go j drop) here q = q
+anchor_of (go j field_end) here q = nowhere
+anchor_of (go j record_end) here q = nowhere
 
 abbrev pub adds : Source → ℕ → Bytes → Running → Act → Point → Running
-adds z b f r a t = record { point = t; wide = wideOn z b r; anchor = anchorOf a (place_of z.file (b ∷ f)) r.anchor }
+adds z b f r a t = record { point = t; wide = wide_on z b r; anchor = anchor_of a (place_of z.file (b ∷ f)) r.anchor }
 
 -- the states that it may make stand behind the byte
 abbrev pub AtThen : Source → Bytes → Bytes → (Point → Running) → Ans Point → Type 0
@@ -202,25 +202,25 @@ module _ {z : Source} {s : Bytes} {b : ℕ} {f : Bytes} {r : Running} (at : At z
   abbrev t : Point
   t = r.point
 
-  seen_here : cond (leb (formNumber cr) (formNumber t.form)) r.anchor (place_of z.file (b ∷ f)) ≡ place_of z.file (seen t.form (b ∷ f) t.anchor)
+  seen_here : cond (leb (form_number cr) (form_number t.form)) r.anchor (place_of z.file (b ∷ f)) ≡ place_of z.file (seen t.form (b ∷ f) t.anchor)
   seen_here = seen-is z.file (b ∷ f) t.anchor r.anchor t.form at.anchored
 
   pub acted :
       (a : Act)
-      → stepped (coded a) (usedOf t.work.account.flags (wideOn z b r)) (place_of z.file f) (going z (b ∷ f) r)
-      ≡ made z (b ∷ f) r (adds z b f r a) (acting (dialectOf z) a b f t)
+      → stepped (coded a) (used_of t.work.account.flags (wide_on z b r)) (place_of z.file f) (going z (b ∷ f) r)
+      ≡ made z (b ∷ f) r (adds z b f r a) (acting (dialect_of z) a b f t)
   unfolding stepped entered
   acted (refuse n) = ap (λ (q : Place). stopped n q (going z (b ∷ f) r)) seen_here
   acted (go j nothing) = refl
   acted (go j put) =
-      let e : plus (plus t.work.content t.work.held) 1 ≡ t.work.content + t.work.held + 1 = omega (arith, at.within, before-limit at) in
+      let e : plus (plus t.work.content t.work.held) 1 ≡ t.work.content + t.work.held + 1 = omega (arith, at.within, before_limit at) in
       rw e
   acted (go j hold) =
-      let e : plus t.work.held 1 ≡ t.work.held + 1 = omega (arith, at.within, before-limit at) in
+      let e : plus t.work.held 1 ≡ t.work.held + 1 = omega (arith, at.within, before_limit at) in
       rw e
   acted (go j drop) = refl
-  acted (go j field_end) = field-ended at (wideOn z b r) f
-  acted (go j record-end) = rw (seen_here, behind-number t.form) (record-ended at (wideOn z b r) f (seen t.form (b ∷ f) t.anchor) (not (behindCr t.form)))
+  acted (go j field_end) = field-ended at (wide_on z b r) f
+  acted (go j record_end) = rw (seen_here, behind-number t.form) (record-ended at (wide_on z b r) f (seen t.form (b ∷ f) t.anchor) (not (is_behind_cr t.form)))
 
   next-at : (r' : Running) → Anchored z.file r'.point.form r'.point.anchor r'.anchor → CountersWithin (length s + 1) r'.point.work → At z (s ++ (b ∷ [])) f r'
   next-at r' i k = record { split = at.split ∙ sym (append_assoc s (b ∷ []) f); anchored = i; within = rw (length-append s (b ∷ [])) k }
@@ -228,29 +228,29 @@ module _ {z : Source} {s : Bytes} {b : ℕ} {f : Bytes} {r : Running} (at : At z
   inside-at :
       (j : Form) (o : Out) (w : Work) → Fits t.form (go j o) → CountersWithin (length s + 1) w
       → At z (s ++ (b ∷ [])) f
-      (record { point = inside j (anchor t.form j (b ∷ f) t.anchor) w; wide = wideOn z b r; anchor = cond (keeps j o) r.anchor (place_of z.file (b ∷ f)) })
+      (record { point = inside j (anchor t.form j (b ∷ f) t.anchor) w; wide = wide_on z b r; anchor = cond (keeps j o) r.anchor (place_of z.file (b ∷ f)) })
   inside-at j o w i k = next-at _ (anchor-on z.file (b ∷ f) t.anchor r.anchor t.form j o i at.anchored) k
 
-  pub acted-at : (a : Act) → Fits t.form a → AtThen z (s ++ (b ∷ [])) f (adds z b f r a) (acting (dialectOf z) a b f t)
+  pub acted-at : (a : Act) → Fits t.form a → AtThen z (s ++ (b ∷ [])) f (adds z b f r a) (acting (dialect_of z) a b f t)
   acted-at (refuse n) i = i
   acted-at (go j nothing) i = inside-at j nothing t.work i (omega (arith, at.within))
-  acted-at (go j put) i = inside-at j put (putOn t.work) i (omega (arith, at.within))
-  acted-at (go j hold) i = inside-at j hold (holdOn t.work) i (omega (arith, at.within))
-  acted-at (go j drop) i = inside-at j drop (dropOn t.work) i (omega (arith, at.within))
+  acted-at (go j put) i = inside-at j put (put_on t.work) i (omega (arith, at.within))
+  acted-at (go j hold) i = inside-at j hold (hold_on t.work) i (omega (arith, at.within))
+  acted-at (go j drop) i = inside-at j drop (drop_on t.work) i (omega (arith, at.within))
   acted-at (go j field_end) i =
       let w = ended t.work in
-      let k = anew (wideOn z b r) in
-      let next = opening true (fieldOn f w) in
+      let k = anew (wide_on z b r) in
+      let next = opening true (field_on f w) in
       field-up (AtThen z (s ++ (b ∷ [])) f k) w (gives next) (next-at (k next) tt (omega (arith, at.within))) refl
-  acted-at (go j record-end) i =
+  acted-at (go j record_end) i =
       let w = ended t.work in
-      let k = anew (wideOn z b r) in
-      let next = opening false (recordOn (not (behindCr t.form)) f w) in
-      record-up (AtThen z (s ++ (b ∷ [])) f k) (dialectOf z) w _ (gives next) (next-at (k next) tt (omega (arith, at.within))) refl refl
+      let k = anew (wide_on z b r) in
+      let next = opening false (record_on (not (is_behind_cr t.form)) f w) in
+      record-up (AtThen z (s ++ (b ∷ [])) f k) (dialect_of z) w _ (gives next) (next-at (k next) tt (omega (arith, at.within))) refl refl
 
-  pub noted-going : noted b (going z (b ∷ f) r) ≡ usedOf t.work.account.flags (wideOn z b r)
+  pub noted-going : noted b (going z (b ∷ f) r) ≡ used_of t.work.account.flags (wide_on z b r)
   unfolding noted
-  noted-going = rw (noting-num (onlyWide z.delimiter b) r.wide)
+  noted-going = rw (noting-num (only_wide z.delimiter b) r.wide)
 
 pub placed-going : (z : Source) (g f : Bytes) (r : Running) → placed (place_of z.file f) (going z g r) ≡ going z f r
 unfolding placed

@@ -10,25 +10,25 @@ use borrow.Author.Tests.{eqb-false}
 use Rattle.format.specs.declared.Place.{Place}
 use Rattle.format.specs.Table.{Bytes}
 use Rattle.format.specs.Dialect.{ragged, names}
-use Rattle.format.specs.House.{contentLimit}
+use Rattle.format.specs.House.{content_limit}
 use Rattle.format.proofs.Classes.{decide}
 use Rattle.steps.specs.declared.Stepped.{Stepped, TheVariants.Refuse, TheVariants.Quiet, TheVariants.Put, TheVariants.Hold, TheVariants.Drop, TheVariants.EndField, TheVariants.EndRecord}
-use Rattle.places.specs.Counters.{counterLimit, plus, moved}
+use Rattle.places.specs.Counters.{counter_limit, plus, moved}
 use Rattle.places.proofs.Counting.{moved-byte}
 use Rattle.state.specs.declared.Used.{Used}
 use Rattle.state.specs.declared.Current.{Current}
 use Rattle.state.specs.declared.Counts.{Counts}
 use Rattle.state.specs.declared.Check.{Check}
-use Rattle.state.specs.Check.{started, stopped, entered, opened, placed, fieldEnded, evenly, recordEnded, stepped, fed, fedAll}
+use Rattle.state.specs.Check.{started, stopped, entered, opened, placed, field_ended, evenly, record_ended, stepped, fed, fed_all}
 use Rattle.state.proofs.Jumps.{refused-step}
 
 -- a piece, one byte after the other
-pub fed-none : (c : Check) → fedAll c [] ≡ c
-unfolding fedAll
+pub fed-none : (c : Check) → fed_all c [] ≡ c
+unfolding fed_all
 fed-none c = refl
 
-pub fed-cons : (c : Check) (b : ℕ) (g : Bytes) → fedAll c (b ∷ g) ≡ fedAll (fed c b) g
-unfolding fedAll
+pub fed-cons : (c : Check) (b : ℕ) (g : Bytes) → fed_all c (b ∷ g) ≡ fed_all (fed c b) g
+unfolding fed_all
 fed-cons c b g = refl
 
 -- a refusal stays
@@ -44,7 +44,7 @@ pub placed-refuses : (n : ℕ) (p q : Place) (c : Check) → Refuses n p c → R
 unfolding placed
 placed-refuses n p q c r = record { refusal = r.refusal; anchor = r.anchor }
 
-pub fed-refuses : (g : Bytes) (n : ℕ) (p : Place) (c : Check) → eqb n 0 ≡ false → Refuses n p c → Refuses n p (fedAll c g)
+pub fed-refuses : (g : Bytes) (n : ℕ) (p : Place) (c : Check) → eqb n 0 ≡ false → Refuses n p c → Refuses n p (fed_all c g)
 fed-refuses [] n p c e r = rw (fed-none c) r
 fed-refuses (b ∷ g) n p c e r =
     rw (fed-cons c b g, refused-step c b (λ q. eqb-false n 0 e (sym r.refusal ∙ q))) (fed-refuses g n p (placed (moved b c.here) c) e (placed-refuses n p (moved b c.here) c r))
@@ -67,15 +67,15 @@ unfolding opened
 opened-keeps u v x s c = record { delimiter = refl; leniencies = refl }
 
 stepped-keeps : (a : Stepped) (v : Used) (p : Place) (c : Check) → Keeps c (stepped a v p c)
-unfolding stepped fieldEnded recordEnded
+unfolding stepped field_ended record_ended
 stepped-keeps (Refuse n) v p c = stopped-keeps n _ c
 stepped-keeps (Quiet k) v p c = entered-keeps k _ v _ c
 stepped-keeps (Put k) v p c = entered-keeps k _ v _ c
 stepped-keeps (Hold k) v p c = entered-keeps k _ v _ c
 stepped-keeps (Drop k) v p c = entered-keeps k _ _ _ c
-stepped-keeps EndField v p c = decide (Keeps c) (leb c.field.content contentLimit) (λ e. opened-keeps 1 _ _ _ c) (λ e. stopped-keeps 9 _ c)
+stepped-keeps EndField v p c = decide (Keeps c) (leb c.field.content content_limit) (λ e. opened-keeps 1 _ _ _ c) (λ e. stopped-keeps 9 _ c)
 stepped-keeps EndRecord v p c =
-    decide (Keeps c) (leb c.field.content contentLimit)
+    decide (Keeps c) (leb c.field.content content_limit)
     (λ e. decide (Keeps c) (names c.leniencies ragged || evenly c) (λ e. opened-keeps 0 _ _ _ c) (λ e. stopped-keeps 10 _ c))
     (λ e. stopped-keeps 9 _ c)
 
@@ -89,8 +89,8 @@ fed-keeps c b =
     placed-keeps (moved b c.here) c _
     (decide (Keeps c) (eqb c.refusal 0) (λ e. stepped-keeps _ _ _ c) (λ e. record { delimiter = refl; leniencies = refl }))
 
-pub fed-all-keeps : (g : Bytes) (c : Check) → Keeps c (fedAll c g)
-unfolding fedAll
+pub fed-all-keeps : (g : Bytes) (c : Check) → Keeps c (fed_all c g)
+unfolding fed_all
 fed-all-keeps [] c = record { delimiter = refl; leniencies = refl }
 fed-all-keeps (b ∷ g) c =
     let p = fed-keeps c b in
@@ -106,11 +106,11 @@ pub fed-byte : (c : Check) (b : ℕ) → (fed c b).here.byte.0 ≡ plus c.here.b
 unfolding fed placed
 fed-byte c b = moved-byte b c.here
 
-pub fed-bytes : (g : Bytes) (c : Check) → c.here.byte.0 ≤ counterLimit → (fedAll c g).here.byte.0 ≡ min (c.here.byte.0 + length g) counterLimit
-unfolding fedAll
+pub fed-bytes : (g : Bytes) (c : Check) → c.here.byte.0 ≤ counter_limit → (fed_all c g).here.byte.0 ≡ min (c.here.byte.0 + length g) counter_limit
+unfolding fed_all
 fed-bytes [] c h = omega arith
 fed-bytes (b ∷ g) c h = let e = fed-byte c b in fed-bytes g (fed c b) (omega arith) ∙ omega arith
 
-pub started-byte : (b sum : ℕ) (f : Bytes) → (fedAll (started b sum) f).here.byte.0 ≡ min (0 + length f) counterLimit
+pub started-byte : (b sum : ℕ) (f : Bytes) → (fed_all (started b sum) f).here.byte.0 ≡ min (0 + length f) counter_limit
 unfolding started
 started-byte b sum f = fed-bytes f (started b sum) (omega arith)

@@ -4,13 +4,13 @@ use mathlib.Core.Path.{◌≡◌, refl}
 use Rattle.format.specs.declared.Place.{Place}
 use Rattle.format.specs.Place.{place, nowhere}
 use Rattle.steps.specs.Steps.{start}
-use Rattle.steps.specs.Numbers.{formNumber}
+use Rattle.steps.specs.Numbers.{form_number}
 use Rattle.places.specs.Counters.{plus}
 use Rattle.state.specs.declared.Check.{Check}
 use Rattle.state.specs.declared.Counts.{Counts}
 use Rattle.state.specs.declared.Current.{Current}
 use Rattle.state.specs.declared.Used.{Used}
-use Rattle.state.specs.Check.{newField, started, entered, opened, placed, grown, jumped}
+use Rattle.state.specs.Check.{new_field, started, entered, opened, placed, grown, jumped}
 
 -- the parts of a state before any byte
 pub started-is :
@@ -20,12 +20,12 @@ pub started-is :
       delimiter = b;
       leniencies = sum;
       refusal = 0;
-      form = formNumber start;
+      form = form_number start;
       begun = 0;
       used = record { lf = 0; blanks = 0; ragged = 0; bytes = 0 };
       here = place 1 1 0;
       anchor = nowhere;
-      field = newField (place 1 1 0) 0;
+      field = new_field (place 1 1 0) 0;
       counts = record { records = 0; fields = record { 0 = 0 }; text = 0; width = 0 };
     }
 unfolding started
@@ -57,7 +57,7 @@ pub opened-is :
       delimiter = c.delimiter;
       leniencies = c.leniencies;
       refusal = c.refusal;
-      form = formNumber start;
+      form = form_number start;
       begun = b;
       used = v;
       here = p;

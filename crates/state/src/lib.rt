@@ -4,10 +4,10 @@
 // function here asks anything of its caller. specs/Check.antt says what a byte does to it, for every
 // state.
 ghost use Rattle.std.specs.Prelude.{◌≡◌};
-ghost use Rattle.format.specs.Dialect.{onlyWide};
-ghost use Rattle.steps.specs.Model.{isValid};
+ghost use Rattle.format.specs.Dialect.{only_wide};
+ghost use Rattle.steps.specs.Model.{is_valid};
 ghost use Rattle.places.specs.Counters.{plus};
-ghost use Rattle.state.specs.Check.{newField, stopped, entered, opened, placed, noting, noted, atEnd, oneField, as_wide, oneRecord, fieldEnded, recordEnded, seen_at, grown, stepped, fed, jumped};
+ghost use Rattle.state.specs.Check.{new_field, stopped, entered, opened, placed, noting, noted, used_at_end, one_field, as_wide, one_record, field_ended, record_ended, seen_at, grown, stepped, fed, jumped};
 
 use format::{FieldNumber, Place};
 use steps::Stepped;
@@ -62,7 +62,7 @@ pub struct Check {
 
 // A field that begins at p, as number n of its record.
 fn new_field(p: Place, n: u32) -> Current
-    ensures { result ≡ newField p n }
+    ensures { result ≡ new_field p n }
 {
     let number = FieldNumber(n);
     Current {
@@ -82,7 +82,7 @@ fn noting(test: bool, was: u8) -> u8
 
 // Whether only the leniency "bytes" allows b, which is not the delimiter.
 fn only_wide(delimiter: u8, b: u8) -> bool
-    ensures { result ≡ onlyWide delimiter b }
+    ensures { result ≡ only_wide delimiter b }
 {
     if b == delimiter {
         return false;
@@ -93,7 +93,7 @@ fn only_wide(delimiter: u8, b: u8) -> bool
 // The leniencies used where a field ends, with blanks held; even and lone say whether its record is
 // as wide as the first, and ended by an LF alone.
 fn at_end(held: u32, even: bool, lone: bool, v: Used) -> Used
-    ensures { result ≡ atEnd held even lone v }
+    ensures { result ≡ used_at_end held even lone v }
 {
     let lf = noting(lone, v.lf);
     let blanks = noting(held != 0, v.blanks);
@@ -108,7 +108,7 @@ fn at_end(held: u32, even: bool, lone: bool, v: Used) -> Used
 
 // One field more, with its content.
 fn one_field(content: u32, s: Counts) -> Counts
-    ensures { result ≡ oneField content s }
+    ensures { result ≡ one_field content s }
 {
     let mut t = s;
     let fields = FieldNumber(places::plus(s.fields.0, 1));
@@ -119,7 +119,7 @@ fn one_field(content: u32, s: Counts) -> Counts
 
 // One record more, of so many fields; the last of them is one field more.
 fn one_record(content: u32, width: u32, s: Counts) -> Counts
-    ensures { result ≡ oneRecord content width s }
+    ensures { result ≡ one_record content width s }
 {
     let mut t = one_field(content, s);
     t.records = places::plus(s.records, 1);
@@ -141,7 +141,7 @@ fn as_wide(first: u32, width: u32) -> bool
 
 // Whether two bytes are a dialect.
 pub fn is_valid(delimiter: u8, leniencies: u8) -> bool
-    ensures { result ≡ isValid delimiter leniencies }
+    ensures { result ≡ is_valid delimiter leniencies }
 {
     match delimiter {
         0x09 | 0x2C | 0x3B | 0x7C => leniencies <= 15,
@@ -210,7 +210,7 @@ impl Check {
 
     // The field ends, and the next one begins.
     fn field_ended(self, v: Used, next: Place) -> Check
-        ensures { result ≡ fieldEnded v next self }
+        ensures { result ≡ field_ended v next self }
     {
         if format::CONTENT_LIMIT < self.field.content {
             let start = self.field.start;
@@ -224,7 +224,7 @@ impl Check {
 
     // Field and record end at a place; lone says whether an LF alone ends them.
     pub fn record_ended(self, v: Used, at: Place, next: Place, lone: bool) -> Check
-        ensures { result ≡ recordEnded v at next lone self }
+        ensures { result ≡ record_ended v at next lone self }
     {
         if format::CONTENT_LIMIT < self.field.content {
             let start = self.field.start;

@@ -6,14 +6,14 @@ use mathlib.Core.Bool.{Bool, true, false, cond, not, ◌||◌, false≢true}
 use mathlib.Core.List.{[], ◌∷◌}
 use lib.Dec.{T, eqb, leb}
 use Rattle.format.specs.Table.{Bytes}
-use Rattle.format.specs.Dialect.{lf, Dialect, Class, text, blank, delimiter, quote, CR, LF, forbidden, classOf}
-use Rattle.format.proofs.Classes.{decide, quotedClass}
-use Rattle.steps.specs.Steps.{Form, start, lead, bare, quoted, shut, tail, cr, nothing, put, hold, drop, field_end, record-end, Move, to, end, wrong, Act, refuse, go, carry, inQuotes, behindCr, isBlank, row, next, step_of}
+use Rattle.format.specs.Dialect.{lf, Dialect, Class, text, blank, delimiter, quote, CR, LF, forbidden, class_of}
+use Rattle.format.proofs.Classes.{decide, quoted_class}
+use Rattle.steps.specs.Steps.{Form, start, lead, bare, quoted, shut, tail, cr, nothing, put, hold, drop, field_end, record_end, Move, to, end, wrong, Act, refuse, go, carry, is_in_quotes, is_behind_cr, is_blank, row, next, step_of}
 use Rattle.steps.specs.Model.{doing, closing, run}
-use Rattle.steps.specs.Numbers.{formNumber, form_of, coded, actOf}
+use Rattle.steps.specs.Numbers.{form_number, form_of, coded, act_of}
 
 abbrev Back : Act → Type 0
-Back a = actOf (coded a) ≡ a
+Back a = act_of (coded a) ≡ a
 
 -- only a blank is held
 abbrev pub HeldBlank : Class → Act → Type 0
@@ -23,17 +23,17 @@ HeldBlank x (go j put) = Unit {0}
 HeldBlank x (go j hold) = x ≡ blank
 HeldBlank x (go j drop) = Unit {0}
 HeldBlank x (go j field_end) = Unit {0}
-HeldBlank x (go j record-end) = Unit {0}
+HeldBlank x (go j record_end) = Unit {0}
 
 module _ (lf : Bool) (k : Form) (x : Class) where
   carried : (m : Move) → Back (carry lf k x m)
   unfolding form_of
   carried (wrong n) = refl
-  carried end = decide Back (behindCr k || lf) (λ e. refl) (λ e. refl)
+  carried end = decide Back (is_behind_cr k || lf) (λ e. refl) (λ e. refl)
   carried (to start) = refl
   carried (to lead) = refl
-  carried (to bare) = decide (λ o. Back (go bare o)) (isBlank x) (λ e. refl) (λ e. refl)
-  carried (to quoted) = decide (λ o. Back (go quoted o)) (inQuotes k) (λ e. refl) (λ e. refl)
+  carried (to bare) = decide (λ o. Back (go bare o)) (is_blank x) (λ e. refl) (λ e. refl)
+  carried (to quoted) = decide (λ o. Back (go quoted o)) (is_in_quotes k) (λ e. refl) (λ e. refl)
   carried (to shut) = refl
   carried (to tail) = refl
   carried (to cr) = refl
@@ -43,17 +43,17 @@ module _ (lf : Bool) (k : Form) (x : Class) where
   unfolding step_of
   step-entry = refl
 
-  pub act-back : actOf (coded (step_of lf k x)) ≡ step_of lf k x
+  pub act-back : act_of (coded (step_of lf k x)) ≡ step_of lf k x
   act-back = rw step-entry (carried (next k x))
 
   held : (m : Move) → HeldBlank x (carry lf k x m)
   held (wrong n) = tt
-  held end = decide (HeldBlank x) (behindCr k || lf) (λ e. tt) (λ e. tt)
+  held end = decide (HeldBlank x) (is_behind_cr k || lf) (λ e. tt) (λ e. tt)
   held (to start) = tt
   held (to lead) = tt
-  held (to bare) = decide (λ o. HeldBlank x (go bare o)) (isBlank x) (λ e. by x e) (λ e. tt)
+  held (to bare) = decide (λ o. HeldBlank x (go bare o)) (is_blank x) (λ e. by x e) (λ e. tt)
     where
-      by : (x : Class) → isBlank x ≡ true → x ≡ blank
+      by : (x : Class) → is_blank x ≡ true → x ≡ blank
       by text e = absurd (false≢true e)
       by blank e = refl
       by delimiter e = absurd (false≢true e)
@@ -61,7 +61,7 @@ module _ (lf : Bool) (k : Form) (x : Class) where
       by CR e = absurd (false≢true e)
       by LF e = absurd (false≢true e)
       by forbidden e = absurd (false≢true e)
-  held (to quoted) = decide (λ o. HeldBlank x (go quoted o)) (inQuotes k) (λ e. tt) (λ e. tt)
+  held (to quoted) = decide (λ o. HeldBlank x (go quoted o)) (is_in_quotes k) (λ e. tt) (λ e. tt)
   held (to shut) = tt
   held (to tail) = tt
   held (to cr) = tt
@@ -75,7 +75,7 @@ fine k (to start) = true
 fine k (to lead) = true
 fine k (to bare) = true
 fine k (to quoted) = true
-fine k (to shut) = inQuotes k
+fine k (to shut) = is_in_quotes k
 fine k (to tail) = true
 fine k (to cr) = true
 fine k end = true
@@ -103,12 +103,12 @@ fine-entry cr = row-all (λ m. T (fine cr m)) _ _ _ _ _ _ _ tt tt tt tt tt tt tt
 -- an act inside a field leads to no field's start, and a refusal has a number
 abbrev pub Proper : Act → Type 0
 Proper (refuse n) = eqb n 0 ≡ false
-Proper (go j nothing) = eqb (formNumber j) (formNumber start) ≡ false
-Proper (go j put) = eqb (formNumber j) (formNumber start) ≡ false
-Proper (go j hold) = eqb (formNumber j) (formNumber start) ≡ false
-Proper (go j drop) = eqb (formNumber j) (formNumber start) ≡ false
+Proper (go j nothing) = eqb (form_number j) (form_number start) ≡ false
+Proper (go j put) = eqb (form_number j) (form_number start) ≡ false
+Proper (go j hold) = eqb (form_number j) (form_number start) ≡ false
+Proper (go j drop) = eqb (form_number j) (form_number start) ≡ false
 Proper (go j field_end) = Unit {0}
-Proper (go j record-end) = Unit {0}
+Proper (go j record_end) = Unit {0}
 
 module _ (lf : Bool) (k : Form) (x : Class) where
   proper : (m : Move) → T (fine k m) → Proper (carry lf k x m)
@@ -117,11 +117,11 @@ module _ (lf : Bool) (k : Form) (x : Class) where
       by : (y : Bool) → T (not y) → y ≡ false
       by true u = absurd u
       by false u = refl
-  proper end t = decide Proper (behindCr k || lf) (λ e. tt) (λ e. refl)
+  proper end t = decide Proper (is_behind_cr k || lf) (λ e. tt) (λ e. refl)
   proper (to start) t = tt
   proper (to lead) t = refl
-  proper (to bare) t = decide (λ o. Proper (go bare o)) (isBlank x) (λ e. refl) (λ e. refl)
-  proper (to quoted) t = decide (λ o. Proper (go quoted o)) (inQuotes k) (λ e. refl) (λ e. refl)
+  proper (to bare) t = decide (λ o. Proper (go bare o)) (is_blank x) (λ e. refl) (λ e. refl)
+  proper (to quoted) t = decide (λ o. Proper (go quoted o)) (is_in_quotes k) (λ e. refl) (λ e. refl)
   proper (to shut) t = refl
   proper (to tail) t = refl
   proper (to cr) t = refl
@@ -150,7 +150,7 @@ stops forbidden = true
 
 module _ (y : Bool) where
   -- text before a field, or in a bare one
-  pub text-puts : (k : Form) → leb (formNumber k) (formNumber bare) ≡ true → step_of y k text ≡ go bare put
+  pub text-puts : (k : Form) → leb (form_number k) (form_number bare) ≡ true → step_of y k text ≡ go bare put
   unfolding step_of
   text-puts start e = refl
   text-puts lead e = refl
@@ -161,7 +161,7 @@ module _ (y : Bool) where
   text-puts cr e = absurd (false≢true e)
 
   -- a byte of content between quotes; a quote that opens, that may close, and the second of a pair
-  pub inside-puts : (x : Class) → quotedClass x ≡ true → step_of y quoted x ≡ go quoted put
+  pub inside-puts : (x : Class) → quoted_class x ≡ true → step_of y quoted x ≡ go quoted put
   unfolding step_of
   inside-puts text e = refl
   inside-puts blank e = refl
@@ -200,7 +200,7 @@ module _ (y : Bool) where
   over-CR shut u = refl
   over-CR tail u = refl
 
-  pub over-LF : (k : Form) → T (over k) → step_of y k LF ≡ cond y (go start record-end) (refuse 7)
+  pub over-LF : (k : Form) → T (over k) → step_of y k LF ≡ cond y (go start record_end) (refuse 7)
   unfolding step_of
   over-LF start u = refl
   over-LF lead u = refl
@@ -216,7 +216,7 @@ module _ (y : Bool) where
   over-forbidden shut u = refl
   over-forbidden tail u = refl
 
-  pub CR-LF : step_of y cr LF ≡ go start record-end
+  pub CR-LF : step_of y cr LF ≡ go start record_end
   unfolding step_of
   CR-LF = refl
 
@@ -226,6 +226,6 @@ module _ (d : Dialect) where
   unfolding run
   run_end k p = refl
 
-  pub run-byte : (b : ℕ) (f : Bytes) (k : Form) (p : Bytes) → run d (b ∷ f) k p ≡ doing (step_of (d.allows lf) k (classOf d b)) k b f p (λ j q. run d f j q)
+  pub run-byte : (b : ℕ) (f : Bytes) (k : Form) (p : Bytes) → run d (b ∷ f) k p ≡ doing (step_of (d.allows lf) k (class_of d b)) k b f p (λ j q. run d f j q)
   unfolding run
   run-byte b f k p = refl

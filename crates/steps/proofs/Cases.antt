@@ -4,13 +4,13 @@ use mathlib.Core.Path.{◌≡◌, refl, subst}
 use mathlib.Core.List.{List, [], ◌∷◌, map, flatten}
 use lib.ListN.{length}
 use Rattle.format.specs.Table.{Bytes, Table, Every}
-use Rattle.format.specs.Dialect.{lf, blanks, ragged, bit_of, classOf}
+use Rattle.format.specs.Dialect.{lf, blanks, ragged, bit_of, class_of}
 use Rattle.format.specs.Count.{wides}
 use Rattle.format.specs.Memory.{text_of}
-use Rattle.format.specs.Place.{place, lineFeeds, sinceLf, behind, place_of}
+use Rattle.format.specs.Place.{place, line_feeds, since_lf, behind, place_of}
 use Rattle.format.specs.Reading.{Accepted, Refused}
 use Rattle.steps.specs.Steps.{step_of}
-use Rattle.steps.specs.Model.{run, agrees, fits, read, used, Verdict, accepts, refuses, verdict, isValid, model}
+use Rattle.steps.specs.Model.{run, agrees, fits, read, used, Verdict, accepts, refuses, verdict, is_valid, model}
 use Rattle.steps.proofs.Verdicts.{Holds, model-holds}
 
 -- accepted, with records, fields, text length and report; or a refusal, with line, column and byte
@@ -80,5 +80,5 @@ all (x ∷ xs) e =
 
 -- all of them hold
 pub cases-hold : Every Claim cases
-unfolding modelled model isValid verdict used read run step_of classOf agrees fits wides flatten place_of behind lineFeeds sinceLf
+unfolding modelled model is_valid verdict used read run step_of class_of agrees fits wides flatten place_of behind line_feeds since_lf
 cases-hold = all cases refl

@@ -4,13 +4,13 @@ use mathlib.Core.Path.{◌≡◌, refl, ap, ◌∙◌}
 use mathlib.Core.Bool.{false}
 use mathlib.Core.List.{[], ◌∷◌}
 use Rattle.format.specs.Table.{Bytes, Content}
-use Rattle.format.specs.Dialect.{lf, Dialect, Class, text, blank, delimiter, quote, CR, LF, forbidden, classOf}
+use Rattle.format.specs.Dialect.{lf, Dialect, Class, text, blank, delimiter, quote, CR, LF, forbidden, class_of}
 use Rattle.format.specs.Grammar.{Blanks, Open, opened, Field}
 use Rattle.format.specs.Count.{dropped}
-use Rattle.format.specs.Refusal.{NoLf, FieldFault, refusal-3, refusal-3-inside, refusal-4, refusal-5, refusal-5-quote, refusal-6, refusal-7, refusal-8}
+use Rattle.format.specs.Refusal.{NoLf, FieldFault, refusal_3, refusal_3_inside, refusal_4, refusal_5, refusal_5_quote, refusal_6, refusal_7, refusal_8}
 use Rattle.steps.specs.Steps.{start, lead, bare, quoted, shut, tail, cr, step_of}
 use Rattle.steps.specs.Model.{cell, refused, change, putting, dropping, run}
-use Rattle.steps.proofs.Complete.{Stops, at-CR, at-LF, at-forbidden, set, start-lead, blanks-lead, blanks-tail, bare-refused, inside, opens, quotes, fields}
+use Rattle.steps.proofs.Complete.{Stops, at_CR, at_LF, at_forbidden, set, start-lead, blanks-lead, blanks-tail, bare-refused, inside, opens, quotes, fields}
 
 module _ (d : Dialect) where
   -- a refusal that is met behind the leading blanks
@@ -24,31 +24,31 @@ module _ (d : Dialect) where
   tail-refused : {n : ℕ} {f g a q : Bytes} → Blanks d f g → run d g tail [] ≡ refused n a q → run d f tail [] ≡ refused n a q
   tail-refused {n} {a} {q} x h = blanks-tail d x (refused n a q) h
 
-  at-forbidden-byte : (b : ℕ) (g p : Bytes) → classOf d b ≡ forbidden → (run d (b ∷ g) tail [] ≡ refused 3 (b ∷ g) (b ∷ g)) × (run d (b ∷ g) quoted p ≡ refused 3 (b ∷ g) (b ∷ g))
+  at-forbidden-byte : (b : ℕ) (g p : Bytes) → class_of d b ≡ forbidden → (run d (b ∷ g) tail [] ≡ refused 3 (b ∷ g) (b ∷ g)) × (run d (b ∷ g) quoted p ≡ refused 3 (b ∷ g) (b ∷ g))
   unfolding run step_of
   at-forbidden-byte b g p e = (rw e, rw e)
 
-  bare-quote : (b : ℕ) (g : Bytes) → classOf d b ≡ quote → run d (b ∷ g) bare [] ≡ refused 4 (b ∷ g) (b ∷ g)
+  bare-quote : (b : ℕ) (g : Bytes) → class_of d b ≡ quote → run d (b ∷ g) bare [] ≡ refused 4 (b ∷ g) (b ∷ g)
   unfolding run step_of
   bare-quote b g e = rw e
 
-  lead-text : {n : ℕ} {a q : Bytes} (b : ℕ) (g : Bytes) → classOf d b ≡ text → run d g bare [] ≡ refused n a q → run d (b ∷ g) lead [] ≡ refused n a q
+  lead-text : {n : ℕ} {a q : Bytes} (b : ℕ) (g : Bytes) → class_of d b ≡ text → run d g bare [] ≡ refused n a q → run d (b ∷ g) lead [] ≡ refused n a q
   unfolding run step_of
   lead-text b g e h = rw e (ap (change (putting b)) h)
 
-  tail-text : (b : ℕ) (g : Bytes) → classOf d b ≡ text → run d (b ∷ g) tail [] ≡ refused 5 (b ∷ g) (b ∷ g)
+  tail-text : (b : ℕ) (g : Bytes) → class_of d b ≡ text → run d (b ∷ g) tail [] ≡ refused 5 (b ∷ g) (b ∷ g)
   unfolding run step_of
   tail-text b g e = rw e
 
-  tail-quote : (b : ℕ) (g : Bytes) → classOf d b ≡ quote → run d (b ∷ g) tail [] ≡ refused 5 (b ∷ g) (b ∷ g)
+  tail-quote : (b : ℕ) (g : Bytes) → class_of d b ≡ quote → run d (b ∷ g) tail [] ≡ refused 5 (b ∷ g) (b ∷ g)
   unfolding run step_of
   tail-quote b g e = rw e
 
-  shut-blank : {n : ℕ} {a q : Bytes} (b : ℕ) (g p : Bytes) → classOf d b ≡ blank → run d g tail [] ≡ refused n a q → run d (b ∷ g) shut p ≡ refused n a q
+  shut-blank : {n : ℕ} {a q : Bytes} (b : ℕ) (g p : Bytes) → class_of d b ≡ blank → run d g tail [] ≡ refused n a q → run d (b ∷ g) shut p ≡ refused n a q
   unfolding run step_of
   shut-blank b g p e h = rw e (ap (change dropping) h)
 
-  shut-text : {b : ℕ} {f g : Bytes} (p : Bytes) → Blanks d f (b ∷ g) → classOf d b ≡ text → run d f shut p ≡ refused 5 (b ∷ g) (b ∷ g)
+  shut-text : {b : ℕ} {f g : Bytes} (p : Bytes) → Blanks d f (b ∷ g) → class_of d b ≡ text → run d f shut p ≡ refused 5 (b ∷ g) (b ∷ g)
   unfolding run step_of
   shut-text p Blanks.none t = rw t
   shut-text {b} {g} p (Blanks.more {b = a} {f} e x) t = shut-blank a f p e (tail-refused x (tail-text b g t))
@@ -57,12 +57,12 @@ module _ (d : Dialect) where
   unfolding run
   open-at-end p = refl
 
-  lone-CR : (b : ℕ) (g : Bytes) → classOf d b ≡ CR → NoLf d g → run d (b ∷ g) tail [] ≡ refused 6 (b ∷ g) (b ∷ g)
+  lone-CR : (b : ℕ) (g : Bytes) → class_of d b ≡ CR → NoLf d g → run d (b ∷ g) tail [] ≡ refused 6 (b ∷ g) (b ∷ g)
   unfolding run step_of
   lone-CR b [] e l = rw e
-  lone-CR b (a ∷ g) e l = rw e (go (classOf d a) refl)
+  lone-CR b (a ∷ g) e l = rw e (go (class_of d a) refl)
     where
-      go : (x : Class) → classOf d a ≡ x → run d (a ∷ g) cr (b ∷ a ∷ g) ≡ refused 6 (b ∷ a ∷ g) (b ∷ a ∷ g)
+      go : (x : Class) → class_of d a ≡ x → run d (a ∷ g) cr (b ∷ a ∷ g) ≡ refused 6 (b ∷ a ∷ g) (b ∷ a ∷ g)
       go text u = rw u
       go blank u = rw u
       go delimiter u = rw u
@@ -71,7 +71,7 @@ module _ (d : Dialect) where
       go LF u = absurd (l u)
       go forbidden u = rw u
 
-  bare-LF : (b : ℕ) (g : Bytes) → classOf d b ≡ LF → d.allows lf ≡ false → run d (b ∷ g) tail [] ≡ refused 7 (b ∷ g) (b ∷ g)
+  bare-LF : (b : ℕ) (g : Bytes) → class_of d b ≡ LF → d.allows lf ≡ false → run d (b ∷ g) tail [] ≡ refused 7 (b ∷ g) (b ∷ g)
   unfolding run step_of
   bare-LF b g e l = rw (e, l)
 
@@ -82,11 +82,11 @@ module _ (d : Dialect) where
 
   -- a fault is the model's refusal
   pub fault-refused : {n : ℕ} {f a q : Bytes} → FieldFault d n f a q → run d f start [] ≡ refused n a q
-  fault-refused (refusal-3 {b} {g} p e) = over-refused p (at-forbidden e) (at-forbidden-byte b g [] e).0
-  fault-refused (refusal-3-inside {b} {q} {g} x o e) = behind-blanks x (inside-refused o (at-forbidden-byte b g q e).1)
-  fault-refused (refusal-4 {a} {b} {g} {h} x t k e) = behind-blanks x (lead-text a g t (bare-refused d k (bare-quote b h e)))
-  fault-refused (refusal-5 {b} {g} {i} x k y t) = behind-blanks x (quotes d 0 (refused 5 (b ∷ i) (b ∷ i)) k (shut-text g y t))
-  fault-refused (refusal-5-quote {a} {b} {g} {h} {i} x k v y e) = behind-blanks x (quotes d 0 (refused 5 (b ∷ i) (b ∷ i)) k (shut-blank a h g v (tail-refused y (tail-quote b i e))))
-  fault-refused (refusal-6 {b} {g} p e l) = over-refused p (at-CR e) (lone-CR b g e l)
-  fault-refused (refusal-7 {b} {g} p e l) = over-refused p (at-LF e) (bare-LF b g e l)
-  fault-refused (refusal-8 {q} x o) = behind-blanks x (inside-refused o (open-at-end q))
+  fault-refused (refusal_3 {b} {g} p e) = over-refused p (at_forbidden e) (at-forbidden-byte b g [] e).0
+  fault-refused (refusal_3_inside {b} {q} {g} x o e) = behind-blanks x (inside-refused o (at-forbidden-byte b g q e).1)
+  fault-refused (refusal_4 {a} {b} {g} {h} x t k e) = behind-blanks x (lead-text a g t (bare-refused d k (bare-quote b h e)))
+  fault-refused (refusal_5 {b} {g} {i} x k y t) = behind-blanks x (quotes d 0 (refused 5 (b ∷ i) (b ∷ i)) k (shut-text g y t))
+  fault-refused (refusal_5_quote {a} {b} {g} {h} {i} x k v y e) = behind-blanks x (quotes d 0 (refused 5 (b ∷ i) (b ∷ i)) k (shut-blank a h g v (tail-refused y (tail-quote b i e))))
+  fault-refused (refusal_6 {b} {g} p e l) = over-refused p (at_CR e) (lone-CR b g e l)
+  fault-refused (refusal_7 {b} {g} p e l) = over-refused p (at_LF e) (bare-LF b g e l)
+  fault-refused (refusal_8 {q} x o) = behind-blanks x (inside-refused o (open-at-end q))

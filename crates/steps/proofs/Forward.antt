@@ -9,18 +9,18 @@ use mathlib.Core.List.{[], ◌∷◌, flatten}
 use lib.Dec.{eqb, leb, eqb-suc-zero}
 use lib.ListN.{length}
 use Rattle.format.specs.declared.Answer.{Answer}
-use Rattle.format.specs.Answer.{acceptedWith, acceptedAs, refusedBy}
+use Rattle.format.specs.Answer.{accepted_with, accepted_as, refused_by}
 use Rattle.format.specs.Table.{Bytes, Content}
-use Rattle.format.specs.Dialect.{Leniency, lf, blanks, ragged, bytes, bit_of, Dialect, Class, text, blank, delimiter, quote, CR, LF, forbidden, classOf}
-use Rattle.format.specs.House.{differs, contentLimit}
+use Rattle.format.specs.Dialect.{Leniency, lf, blanks, ragged, bytes, bit_of, Dialect, Class, text, blank, delimiter, quote, CR, LF, forbidden, class_of}
+use Rattle.format.specs.House.{differs, content_limit}
 use Rattle.format.specs.Count.{wides, some}
 use Rattle.format.specs.Memory.{text_of}
 use Rattle.format.specs.Place.{place_of}
 use Rattle.format.proofs.Leniencies.{no-byte-wide}
-use Rattle.steps.specs.Steps.{Form, start, lead, bare, quoted, shut, tail, cr, Out, nothing, put, hold, drop, field_end, record-end, Act, refuse, go, inQuotes, behindCr, step_of}
-use Rattle.steps.specs.Model.{Cell, cell, Trace, refused, last, field, line, change, putting, dropping, keptIn, holding, ending, anchor, seen, doing, run, Judged, declined, taken, any, agrees, judge, read, used, Verdict, accepts, refuses, verdict}
-use Rattle.steps.specs.Numbers.{formNumber}
-use Rattle.steps.proofs.Tallies.{Account, Work, fresh, widthFrom, Ans, stop, gives, Total, closed, contentWith, lost, dropsIn, withBlanks, whole, fieldOn, recordOn, fieldUp, recordUp, goes, same_whole, Some, some-judge, tallied, tallies}
+use Rattle.steps.specs.Steps.{Form, start, lead, bare, quoted, shut, tail, cr, Out, nothing, put, hold, drop, field_end, record_end, Act, refuse, go, is_in_quotes, is_behind_cr, step_of}
+use Rattle.steps.specs.Model.{Cell, cell, Trace, refused, last, field, line, change, putting, dropping, kept_in, holding, ending, anchor, seen, doing, run, Judged, declined, taken, any, agrees, judge, read, used, Verdict, accepts, refuses, verdict}
+use Rattle.steps.specs.Numbers.{form_number}
+use Rattle.steps.proofs.Tallies.{Account, Work, fresh, width_from, Ans, stop, gives, Total, closed, content_with, lost, drops_in, with_blanks, whole, field_on, record_on, field_up, record_up, goes, same_whole, Some, some-judge, tallied, tallies}
 
 -- a point inside a file: its form, whether bytes came since the last record's end, its anchor, and the field in work
 pub record Point : Type 0 where
@@ -48,14 +48,14 @@ none f =
     }
 
 -- a byte of content behind the blanks held; a blank that is held, or dropped; the field without more
-abbrev pub putOn : Work → Work
-putOn w = record { account = w.account; content = w.content + w.held + 1; held = 0 }
+abbrev pub put_on : Work → Work
+put_on w = record { account = w.account; content = w.content + w.held + 1; held = 0 }
 
-abbrev pub holdOn : Work → Work
-holdOn w = record { account = w.account; content = w.content; held = w.held + 1 }
+abbrev pub hold_on : Work → Work
+hold_on w = record { account = w.account; content = w.content; held = w.held + 1 }
 
-abbrev pub dropOn : Work → Work
-dropOn w = record { account = withBlanks true w.account; content = w.content; held = w.held }
+abbrev pub drop_on : Work → Work
+drop_on w = record { account = with_blanks true w.account; content = w.content; held = w.held }
 
 abbrev pub ended : Work → Work
 ended w = whole w (cell [] 0)
@@ -64,22 +64,22 @@ ended w = whole w (cell [] 0)
 abbrev pub acting : Dialect → Act → ℕ → Bytes → Point → Ans Point
 acting d (refuse n) b f p = stop n (seen p.form (b ∷ f) p.anchor)
 acting d (go j nothing) b f p = gives (inside j (anchor p.form j (b ∷ f) p.anchor) p.work)
-acting d (go j put) b f p = gives (inside j (anchor p.form j (b ∷ f) p.anchor) (putOn p.work))
-acting d (go j hold) b f p = gives (inside j (anchor p.form j (b ∷ f) p.anchor) (holdOn p.work))
-acting d (go j drop) b f p = gives (inside j (anchor p.form j (b ∷ f) p.anchor) (dropOn p.work))
-acting d (go j field_end) b f p = let w = ended p.work in fieldUp w (gives (opening true (fieldOn f w)))
-acting d (go j record-end) b f p =
+acting d (go j put) b f p = gives (inside j (anchor p.form j (b ∷ f) p.anchor) (put_on p.work))
+acting d (go j hold) b f p = gives (inside j (anchor p.form j (b ∷ f) p.anchor) (hold_on p.work))
+acting d (go j drop) b f p = gives (inside j (anchor p.form j (b ∷ f) p.anchor) (drop_on p.work))
+acting d (go j field_end) b f p = let w = ended p.work in field_up w (gives (opening true (field_on f w)))
+acting d (go j record_end) b f p =
     let w = ended p.work in
-    recordUp d w (seen p.form (b ∷ f) p.anchor) (gives (opening false (recordOn (not (behindCr p.form)) f w)))
+    record_up d w (seen p.form (b ∷ f) p.anchor) (gives (opening false (record_on (not (is_behind_cr p.form)) f w)))
 
 -- what is ahead of a point: with no byte since the last record's end, nothing more is no record
-abbrev orFresh : Bool → Bytes → Account → Ans Total → Ans Total
-orFresh true g a k = k
-orFresh false [] a k = closed a
-orFresh false (b ∷ f) a k = k
+abbrev or_fresh : Bool → Bytes → Account → Ans Total → Ans Total
+or_fresh true g a k = k
+or_fresh false [] a k = closed a
+or_fresh false (b ∷ f) a k = k
 
 unfoldable pub comes : Dialect → Bytes → Point → Ans Total
-comes d g p = orFresh p.begun g p.work.account (goes d p.work (run d g p.form p.anchor))
+comes d g p = or_fresh p.begun g p.work.account (goes d p.work (run d g p.form p.anchor))
 
 abbrev pub and_then : {A B : Type 0} → Ans A → (A → Ans B) → Ans B
 and_then (stop n p) k = stop n p
@@ -89,55 +89,55 @@ and_then (gives a) k = k a
 goes-change :
     (d : Dialect) (w w' : Work) (φ : Cell → Cell) → ((x : Cell) → whole w' x ≡ whole w (φ x)) → (r : Trace) → goes d w' r ≡ goes d w (change φ r)
 goes-change d w w' φ e (refused n a i) = refl
-goes-change d w w' φ e (last x l a) = ap (λ (v : Work). recordUp d v a (closed (recordOn (some l) [] v))) (e x)
-goes-change d w w' φ e (field x a g r) = ap (λ (v : Work). fieldUp v (goes d (fresh (fieldOn g v)) r)) (e x)
-goes-change d w w' φ e (line x l a g r) = ap (λ (v : Work). recordUp d v a (goes d (fresh (recordOn (some l) g v)) r)) (e x)
+goes-change d w w' φ e (last x l a) = ap (λ (v : Work). record_up d v a (closed (record_on (some l) [] v))) (e x)
+goes-change d w w' φ e (field x a g r) = ap (λ (v : Work). field_up v (goes d (fresh (field_on g v)) r)) (e x)
+goes-change d w w' φ e (line x l a g r) = ap (λ (v : Work). record_up d v a (goes d (fresh (record_on (some l) g v)) r)) (e x)
 
 some-suc : (n : ℕ) → some (suc n) ≡ true
 some-suc n = rw (eqb-suc-zero n)
 
 module _ (w : Work) (b : ℕ) where
-  whole-put : (x : Cell) → whole (putOn w) x ≡ whole w (putting b x)
+  whole-put : (x : Cell) → whole (put_on w) x ≡ whole w (putting b x)
   whole-put x = same_whole w.account (ap (λ (y : Bool). y || w.account.flags.blanks) (drops x.content)) (content x.content)
     where
       drops : (c : Content) → (some x.drops || lost 0 c) ≡ (some x.drops || false)
       drops [] = refl
       drops (y ∷ c) = refl
 
-      content : (c : Content) → contentWith (w.content + w.held + 1) 0 c ≡ contentWith w.content w.held (b ∷ c)
+      content : (c : Content) → content_with (w.content + w.held + 1) 0 c ≡ content_with w.content w.held (b ∷ c)
       content [] = omega arith
       content (y ∷ c) = omega arith
 
-  whole-hold : (x : Cell) → whole (holdOn w) x ≡ whole w (holding b x)
+  whole-hold : (x : Cell) → whole (hold_on w) x ≡ whole w (holding b x)
   whole-hold x =
       same_whole w.account (ap (λ (y : Bool). y || w.account.flags.blanks) (drops x.drops x.content)) (content x.drops x.content)
     where
-      drops : (n : ℕ) (c : Content) → dropsIn (w.held + 1) (cell c n) ≡ dropsIn w.held (keptIn b c n)
+      drops : (n : ℕ) (c : Content) → drops_in (w.held + 1) (cell c n) ≡ drops_in w.held (kept_in b c n)
       drops n [] = rw (add-one w.held, some-suc w.held, some-suc n) (or-true (some n))
       drops n (y ∷ c) = refl
 
-      content : (n : ℕ) (c : Content) → contentWith w.content (w.held + 1) c ≡ contentWith w.content w.held (keptIn b c n).content
+      content : (n : ℕ) (c : Content) → content_with w.content (w.held + 1) c ≡ content_with w.content w.held (kept_in b c n).content
       content n [] = refl
       content n (y ∷ c) = omega arith
 
-whole_drop : (w : Work) (x : Cell) → whole (dropOn w) x ≡ whole w (dropping x)
+whole_drop : (w : Work) (x : Cell) → whole (drop_on w) x ≡ whole w (dropping x)
 whole_drop w x = same_whole w.account drops refl
   where
-    drops : (dropsIn w.held x || true) ≡ (dropsIn w.held (dropping x) || w.account.flags.blanks)
-    drops = rw (some-suc x.drops) (or-true (dropsIn w.held x))
+    drops : (drops_in w.held x || true) ≡ (drops_in w.held (dropping x) || w.account.flags.blanks)
+    drops = rw (some-suc x.drops) (or-true (drops_in w.held x))
 
 -- tests are passed on
 cond-then : {A B : Type 0} (x : Bool) (a : Ans A) (n : ℕ) (p : Bytes) (k : A → Ans B) → cond x (and_then a k) (stop n p) ≡ and_then (cond x a (stop n p)) k
 cond-then true a n p k = refl
 cond-then false a n p k = refl
 
-field-then : {A B : Type 0} (w : Work) (a : Ans A) (k : A → Ans B) → fieldUp w (and_then a k) ≡ and_then (fieldUp w a) k
-field-then w a k = cond-then (leb w.content contentLimit) a 9 w.account.start k
+field-then : {A B : Type 0} (w : Work) (a : Ans A) (k : A → Ans B) → field_up w (and_then a k) ≡ and_then (field_up w a) k
+field-then w a k = cond-then (leb w.content content_limit) a 9 w.account.start k
 
-pub record-then : {A B : Type 0} (d : Dialect) (w : Work) (p : Bytes) (a : Ans A) (k : A → Ans B) → recordUp d w p (and_then a k) ≡ and_then (recordUp d w p a) k
+pub record-then : {A B : Type 0} (d : Dialect) (w : Work) (p : Bytes) (a : Ans A) (k : A → Ans B) → record_up d w p (and_then a k) ≡ and_then (record_up d w p a) k
 record-then d w p a k =
-    let even = agrees d (widthFrom w.account.width) (suc w.account.number) in
-    ap (fieldUp w) (cond-then even a 10 p k) ∙ field-then w (cond even a (stop 10 p)) k
+    let even = agrees d (width_from w.account.width) (suc w.account.number) in
+    ap (field_up w) (cond-then even a 10 p k) ∙ field-then w (cond even a (stop 10 p)) k
 
 alone : (x : Bool) → some (cond x 0 1) ≡ not x
 alone true = refl
@@ -150,13 +150,13 @@ module _ (d : Dialect) (b : ℕ) (f : Bytes) (p : Point) where
   -- the end of a record, with what follows it
   record-ends :
       (l : ℕ) (a : Bytes) → let w = ended p.work in
-      goes d p.work (ending l a f (run d f start [])) ≡ recordUp d w a (comes d f (opening false (recordOn (some l) f w)))
+      goes d p.work (ending l a f (run d f start [])) ≡ record_up d w a (comes d f (opening false (record_on (some l) f w)))
   unfolding comes
   record-ends l a = go f (run d f start [])
     where
       go :
           (f : Bytes) (r : Trace) → let w = ended p.work in
-          goes d p.work (ending l a f r) ≡ recordUp d w a (orFresh false f (recordOn (some l) f w) (goes d (fresh (recordOn (some l) f w)) r))
+          goes d p.work (ending l a f r) ≡ record_up d w a (or_fresh false f (record_on (some l) f w) (goes d (fresh (record_on (some l) f w)) r))
       go [] r = refl
       go (b ∷ f) r = refl
 
@@ -164,23 +164,23 @@ module _ (d : Dialect) (b : ℕ) (f : Bytes) (p : Point) where
   unfolding comes
   comes-act (refuse n) = refl
   comes-act (go j nothing) = refl
-  comes-act (go j put) = sym (goes-change d p.work (putOn p.work) (putting b) (whole-put p.work b) (run d f j (to j)))
-  comes-act (go j hold) = sym (goes-change d p.work (holdOn p.work) (holding b) (whole-hold p.work b) (run d f j (to j)))
-  comes-act (go j drop) = sym (goes-change d p.work (dropOn p.work) dropping (whole_drop p.work) (run d f j (to j)))
-  comes-act (go j field_end) = let w = ended p.work in field-then w (gives (opening true (fieldOn f w))) (comes d f)
-  comes-act (go j record-end) =
+  comes-act (go j put) = sym (goes-change d p.work (put_on p.work) (putting b) (whole-put p.work b) (run d f j (to j)))
+  comes-act (go j hold) = sym (goes-change d p.work (hold_on p.work) (holding b) (whole-hold p.work b) (run d f j (to j)))
+  comes-act (go j drop) = sym (goes-change d p.work (drop_on p.work) dropping (whole_drop p.work) (run d f j (to j)))
+  comes-act (go j field_end) = let w = ended p.work in field-then w (gives (opening true (field_on f w))) (comes d f)
+  comes-act (go j record_end) =
       let w = ended p.work in
       let a = seen p.form (b ∷ f) p.anchor in
-      record-ends (cond (behindCr p.form) 0 1) a
-      ∙ (ap (λ (l : Bool). recordUp d w a (comes d f (opening false (recordOn l f w)))) (alone (behindCr p.form))
-      ∙ record-then d w a (gives (opening false (recordOn (not (behindCr p.form)) f w))) (comes d f))
+      record-ends (cond (is_behind_cr p.form) 0 1) a
+      ∙ (ap (λ (l : Bool). record_up d w a (comes d f (opening false (record_on l f w)))) (alone (is_behind_cr p.form))
+      ∙ record-then d w a (gives (opening false (record_on (not (is_behind_cr p.form)) f w))) (comes d f))
 
   -- what is ahead of the point before a byte is what is ahead of the one behind it
-  pub comes-byte : comes d (b ∷ f) p ≡ and_then (acting d (step_of (d.allows lf) p.form (classOf d b)) b f p) (comes d f)
+  pub comes-byte : comes d (b ∷ f) p ≡ and_then (acting d (step_of (d.allows lf) p.form (class_of d b)) b f p) (comes d f)
   unfolding comes run
-  comes-byte = go p.begun ∙ comes-act (step_of (d.allows lf) p.form (classOf d b))
+  comes-byte = go p.begun ∙ comes-act (step_of (d.allows lf) p.form (class_of d b))
     where
-      go : (u : Bool) → orFresh u (b ∷ f) p.work.account (goes d p.work (run d (b ∷ f) p.form p.anchor)) ≡ goes d p.work (run d (b ∷ f) p.form p.anchor)
+      go : (u : Bool) → or_fresh u (b ∷ f) p.work.account (goes d p.work (run d (b ∷ f) p.form p.anchor)) ≡ goes d p.work (run d (b ∷ f) p.form p.anchor)
       go true = refl
       go false = refl
 
@@ -188,7 +188,7 @@ module _ (d : Dialect) (b : ℕ) (f : Bytes) (p : Point) where
 abbrev pub lastly : Dialect → Form → Point → Ans Total
 lastly d k p =
     let w = ended p.work in
-    cond (eqb (formNumber k) (formNumber quoted)) (stop 8 p.anchor) (cond (behindCr k) (stop 6 p.anchor) (recordUp d w [] (closed (recordOn false [] w))))
+    cond (eqb (form_number k) (form_number quoted)) (stop 8 p.anchor) (cond (is_behind_cr k) (stop 6 p.anchor) (record_up d w [] (closed (record_on false [] w))))
 
 pub comes-end : (d : Dialect) (p : Point) → comes d [] p ≡ cond p.begun (lastly d p.form p) (closed p.work.account)
 unfolding comes run
@@ -196,30 +196,30 @@ comes-end d p = go p.begun p.form
   where
     go :
         (u : Bool) (k : Form)
-        → orFresh u [] p.work.account (goes d p.work (run d [] k p.anchor)) ≡ cond u (lastly d k p) (closed p.work.account)
+        → or_fresh u [] p.work.account (goes d p.work (run d [] k p.anchor)) ≡ cond u (lastly d k p) (closed p.work.account)
     go false = λ k. refl
     go true = elim [ start ↦ refl | lead ↦ refl | bare ↦ refl | quoted ↦ refl | shut ↦ refl | tail ↦ refl | cr ↦ refl ]
 
 -- the answer for the file F of what is ahead of a point, with y for "bytes", which the bytes alone tell; and that of a verdict
-abbrev bitIf : Bool → Leniency → ℕ
-bitIf x l = cond x (bit_of l) 0
+abbrev bit_if : Bool → Leniency → ℕ
+bit_if x l = cond x (bit_of l) 0
 
 abbrev pub answer : Bytes → Bool → Ans Total → Answer
-answer F y (stop n p) = refusedBy n (place_of F p)
+answer F y (stop n p) = refused_by n (place_of F p)
 answer F y (gives t) =
     let s = t.sums in
     let v = t.flags in
-    acceptedWith
+    accepted_with
     (record {
       records = s.records;
       fields = record { 0 = s.fields };
       text = s.text;
-      report = bitIf v.lf lf + (bitIf v.blanks blanks + (bitIf v.ragged ragged + bitIf y bytes));
+      report = bit_if v.lf lf + (bit_if v.blanks blanks + (bit_if v.ragged ragged + bit_if y bytes));
     })
 
 abbrev pub answer_of : Verdict → Answer
-answer_of (accepts t r) = acceptedAs t r
-answer_of (refuses n p) = refusedBy n p
+answer_of (accepts t r) = accepted_as t r
+answer_of (refuses n p) = refused_by n p
 
 module _ (d : Dialect) where
   tallied-answer : (f : Bytes) (r : Judged) → Some r → answer f (some (wides d f)) (tallied (none f) r) ≡ answer_of (verdict d f r)
@@ -237,12 +237,12 @@ module _ (d : Dialect) where
 
 -- the anchor is kept, and else it is the byte's own place
 abbrev pub keeps : Form → Out → Bool
-keeps j nothing = eqb (formNumber j) (formNumber shut)
+keeps j nothing = eqb (form_number j) (form_number shut)
 keeps j put = true
 keeps j hold = true
 keeps j drop = true
 keeps j field_end = true
-keeps j record-end = true
+keeps j record_end = true
 
 -- the acts that a step may be: a refusal has a number, and a form with an anchor keeps it where the model's does
 abbrev pub Fits : Form → Act → Type 0
@@ -250,12 +250,12 @@ Fits k (refuse n) = eqb n 0 ≡ false
 Fits k (go start o) = Unit {0}
 Fits k (go lead o) = Unit {0}
 Fits k (go bare o) = Unit {0}
-Fits k (go quoted o) = keeps quoted o ≡ inQuotes k
-Fits k (go shut o) = keeps shut o ≡ inQuotes k
+Fits k (go quoted o) = keeps quoted o ≡ is_in_quotes k
+Fits k (go shut o) = keeps shut o ≡ is_in_quotes k
 Fits k (go tail o) = Unit {0}
 Fits k (go cr o) = keeps cr o ≡ false
 
-ends-fit : (k : Form) (l : Bool) → Fits k (cond l (go start record-end) (refuse 7))
+ends-fit : (k : Form) (l : Bool) → Fits k (cond l (go start record_end) (refuse 7))
 ends-fit k true = tt
 ends-fit k false = refl
 

@@ -8,18 +8,18 @@ use lib.Dec.{T}
 use lib.ListN.{length}
 use borrow.Author.Tests.{le-leb, lt-leb, leb-true, leb-false}
 use Rattle.format.specs.Table.{Bytes, Content, Table, Ending, Every}
-use Rattle.format.specs.Dialect.{Dialect, delimiter, classOf}
+use Rattle.format.specs.Dialect.{Dialect, delimiter, class_of}
 use Rattle.format.specs.Grammar.{Field, Record, Break, File}
-use Rattle.format.specs.House.{LastBreak, contentLimit, Fits}
-use Rattle.format.specs.Refusal.{LineEnd, FieldEnd, delimited, lined, FieldRefusal, fault, refusal-9, Fields}
-use Rattle.format.specs.Count.{inRecord, inFile, dropped, alone, alones}
+use Rattle.format.specs.House.{LastBreak, content_limit, Fits}
+use Rattle.format.specs.Refusal.{LineEnd, FieldEnd, delimited, lined, FieldRefusal, fault, refusal_9, Fields}
+use Rattle.format.specs.Count.{sum_in_record, sum_in_file, dropped, alone, alones}
 use Rattle.format.proofs.Classes.{decide}
 use Rattle.format.proofs.Walk.{record-nil, break-nil, file-nil}
 use Rattle.steps.specs.Steps.{start}
-use Rattle.steps.specs.Model.{Cell, cell, Trace, ending, run, Judged, declined, taken, Width, any, settled, agrees, beside, above, fits, lineEnds, judge, read}
-use Rattle.steps.proofs.Sound.{Means, is-wrong, is-bad, is_last, is-ended, is_field, is-line, from_start, sound, wrong-fault, bad-fault}
+use Rattle.steps.specs.Model.{Cell, cell, Trace, ending, run, Judged, declined, taken, Width, any, settled, agrees, beside, above, fits, line_ends, judge, read}
+use Rattle.steps.proofs.Sound.{Means, is_wrong, is_bad, is_last, is_ended, is_field, is_line, from_start, sound, wrong-fault, bad-fault}
 use Rattle.steps.proofs.Faults.{fault-refused}
-use Rattle.steps.proofs.Complete.{set, at-end, fields, field-then, break-stops, break-ending}
+use Rattle.steps.proofs.Complete.{set, at_end, fields, field-then, break-stops, break-ending}
 
 -- the fields of a record, and of j before them
 abbrev count : ℕ → List Content → ℕ
@@ -44,44 +44,44 @@ no-cond false u v t = refl
 
 fits-yes : (c : Content) {A : Type 0} (u v : A) → Fits c → cond (fits c) u v ≡ u
 unfolding fits
-fits-yes c u v h = rw (le-leb (length c) contentLimit h)
+fits-yes c u v h = rw (le-leb (length c) content_limit h)
 
-fits-no : (c : Content) {A : Type 0} (u v : A) → contentLimit < length c → cond (fits c) u v ≡ v
+fits-no : (c : Content) {A : Type 0} (u v : A) → content_limit < length c → cond (fits c) u v ≡ v
 unfolding fits
-fits-no c u v h = rw (lt-leb (length c) contentLimit h)
+fits-no c u v h = rw (lt-leb (length c) content_limit h)
 
 fits-true : (c : Content) → fits c ≡ true → Fits c
 unfolding fits
-fits-true c e = leb-true (length c) contentLimit e
+fits-true c e = leb-true (length c) content_limit e
 
-fits-false : (c : Content) → fits c ≡ false → contentLimit < length c
+fits-false : (c : Content) → fits c ≡ false → content_limit < length c
 unfolding fits
-fits-false c e = leb-false (length c) contentLimit e
+fits-false c e = leb-false (length c) content_limit e
 
 -- the LF alone that ends a line
-abbrev aloneOf : {d : Dialect} {g h : Bytes} → LineEnd d g h → ℕ
-aloneOf LineEnd.end = 0
-aloneOf (LineEnd.broken k) = alone k
+abbrev alone_of : {d : Dialect} {g h : Bytes} → LineEnd d g h → ℕ
+alone_of LineEnd.end = 0
+alone_of (LineEnd.broken k) = alone k
 
 module _ (d : Dialect) where
   judge-field :
-      {b : ℕ} {f g : Bytes} {c : Content} (w : Width) (j : ℕ) (p : Bytes) (q : Field d f c (b ∷ g)) → classOf d b ≡ delimiter
+      {b : ℕ} {f g : Bytes} {c : Content} (w : Width) (j : ℕ) (p : Bytes) (q : Field d f c (b ∷ g)) → class_of d b ≡ delimiter
       → judge d w j p (run d f start [])
       ≡ cond (fits c) (beside (cell c (dropped f c (b ∷ g) q)) (judge d w (suc j) g (run d g start []))) (declined 9 (b ∷ g) p)
   judge-field w j p q e = ap (judge d w j p) (field-then d q e)
 
   judge-ending :
       (w : Width) (j l : ℕ) (p g h : Bytes) (x : Cell)
-      → judge d w j p (set x (ending l g h (run d h start []))) ≡ lineEnds d w j p x l g (read d (settled w (suc j)) h)
+      → judge d w j p (set x (ending l g h (run d h start []))) ≡ line_ends d w j p x l g (read d (settled w (suc j)) h)
   unfolding read
   judge-ending w j l p g [] x = refl
   judge-ending w j l p g (b ∷ h) x = refl
 
   judge-end :
       {f g h : Bytes} {c : Content} (w : Width) (j : ℕ) (p : Bytes) (q : Field d f c g) (e : LineEnd d g h)
-      → judge d w j p (run d f start []) ≡ lineEnds d w j p (cell c (dropped f c g q)) (aloneOf e) g (read d (settled w (suc j)) h)
+      → judge d w j p (run d f start []) ≡ line_ends d w j p (cell c (dropped f c g q)) (alone_of e) g (read d (settled w (suc j)) h)
   unfolding run read
-  judge-end w j p q LineEnd.end = ap (judge d w j p) (fields d q at-end)
+  judge-end w j p q LineEnd.end = ap (judge d w j p) (fields d q at_end)
   judge-end {f} {g} {h} {c} w j p q (LineEnd.broken k) =
       ap (judge d w j p) (fields d q (break-stops d k) ∙ ap (set (cell c (dropped f c g q))) (break-ending d k))
       ∙ judge-ending w j (alone k) p g h (cell c (dropped f c g q))
@@ -117,20 +117,20 @@ module _ (d : Dialect) where
   fit-record :
       {f g h : Bytes} {cs : List Content} (w : Width) (j : ℕ) (p : Bytes) (r : Record d f cs g) (e : LineEnd d g h) → Every Fits cs
       → judge d w j p (run d f start [])
-      ≡ closes w (count j cs) cs (inRecord dropped r) (aloneOf e) g (read d (settled w (count j cs)) h)
-  unfolding inRecord
+      ≡ closes w (count j cs) cs (sum_in_record dropped r) (alone_of e) g (read d (settled w (count j cs)) h)
+  unfolding sum_in_record
   fit-record w j p (Record.one {c} q) e t = judge-end w j p q e ∙ fits-yes c _ _ t.0
   fit-record {f} {g} {h} w j p (Record.more {b} {g = i} {c} {cs} q k r) e t =
       judge-field w j p q k
       ∙ (fits-yes c _ _ t.0
       ∙ (ap (beside (cell c (dropped f c (b ∷ i) q))) (fit-record w (suc j) i r e t.1)
-      ∙ beside-closes (agrees d w (count (suc j) cs)) c (dropped f c (b ∷ i) q) (inRecord dropped r) (aloneOf e) cs g (read d (settled w (count (suc j) cs)) h)))
+      ∙ beside-closes (agrees d w (count (suc j) cs)) c (dropped f c (b ∷ i) q) (sum_in_record dropped r) (alone_of e) cs g (read d (settled w (count (suc j) cs)) h)))
 
   -- a record that fits, from its beginning
   fit-first :
       {f g h : Bytes} {cs : List Content} (w : Width) (r : Record d f cs g) (e : LineEnd d g h) → Every Fits cs
       → judge d w 0 f (run d f start [])
-      ≡ closes w (length cs) cs (inRecord dropped r) (aloneOf e) g (read d (settled w (length cs)) h)
+      ≡ closes w (length cs) cs (sum_in_record dropped r) (alone_of e) g (read d (settled w (length cs)) h)
   fit-first {f} {cs} w r e t = rw (count-is cs) at (fit-record w 0 f r e t)
 
   begun-read : {f g h : Bytes} {cs : List Content} (w : Width) → Record d f cs g → Break d g h → read d w f ≡ judge d w 0 f (run d f start [])
@@ -149,25 +149,25 @@ module _ {d : Dialect} where
   -- a record that fits and agrees, before what follows its line's end
   agreed :
       {f g h : Bytes} {cs : List Content} (w : Width) (r : Record d f cs g) (e : LineEnd d g h) → Every Fits cs → T (agrees d w (length cs))
-      → judge d w 0 f (run d f start []) ≡ above cs (inRecord dropped r) (aloneOf e) (read d (settled w (length cs)) h)
+      → judge d w 0 f (run d f start []) ≡ above cs (sum_in_record dropped r) (alone_of e) (read d (settled w (length cs)) h)
   agreed {cs} w r e t u = fit-first d w r e t ∙ yes-cond (agrees d w (length cs)) _ _ u
 
   -- the model reads what the grammar reads
   pub read-complete :
       {f : Bytes} {t : Table} {e : Ending} (w : Width) (p : File d f t e) → LastBreak e → Fine d w t
-      → read d w f ≡ taken t (inFile dropped p) (alones p)
-  unfolding read inFile alones
+      → read d w f ≡ taken t (sum_in_file dropped p) (alones p)
+  unfolding read sum_in_file alones
   read-complete w (File.one {f = b ∷ f} r) l h = agreed w r LineEnd.end h.0 h.1 ∙ same_taken (omega arith) refl
   read-complete w (File.ended r k) l h =
       begun-read d w r k ∙ (agreed w r (LineEnd.broken k) h.0 h.1 ∙ same_taken (omega arith) (omega arith))
   read-complete w (File.more {cs} r k p) l h =
       begun-read d w r k
       ∙ (agreed w r (LineEnd.broken k) h.0 h.1
-      ∙ ap (above cs (inRecord dropped r) (alone k)) (read-complete (settled w (length cs)) p l h.2))
+      ∙ ap (above cs (sum_in_record dropped r) (alone k)) (read-complete (settled w (length cs)) p l h.2))
 
 -- a refusal in the record that begins at f: w is the width that the record is to agree with
 pub data Here (d : Dialect) (w : Width) : ℕ → Bytes → Bytes → Bytes → Type 0 where
-  in-record :
+  in_record :
       {n : ℕ} {f h found named : Bytes} {cs : List Content}
       → Fields d f cs h → Every Fits cs → FieldRefusal d n h found named → Here d w n f found named
   uneven :
@@ -193,7 +193,7 @@ module _ {d : Dialect} where
       judge-field d w j f q e ∙ (fits-yes c _ _ t.0 ∙ ap (beside (cell c (dropped f c (b ∷ g) q))) (fields-refuse w (suc j) r t.1 h))
 
   long-declined :
-      {f g : Bytes} {c : Content} (w : Width) (j : ℕ) → Field d f c g → FieldEnd d g → contentLimit < length c
+      {f g : Bytes} {c : Content} (w : Width) (j : ℕ) → Field d f c g → FieldEnd d g → content_limit < length c
       → judge d w j f (run d f start []) ≡ declined 9 g f
   long-declined {f} {c} w j p (delimited e) h = judge-field d w j f p e ∙ fits-no c _ _ h
   long-declined {f} {c} w j p (lined e) h = judge-end d w j f p e ∙ fits-no c _ _ h
@@ -201,7 +201,7 @@ module _ {d : Dialect} where
   field-declined :
       {n : ℕ} {f found named : Bytes} (w : Width) (j : ℕ) → FieldRefusal d n f found named → judge d w j f (run d f start []) ≡ declined n found named
   field-declined {f} w j (fault x) = ap (judge d w j f) (fault-refused d x)
-  field-declined w j (refusal-9 p e l) = long-declined w j p e l
+  field-declined w j (refusal_9 p e l) = long-declined w j p e l
 
   record-declined :
       {n : ℕ} {f g found named : Bytes} {cs : List Content} (w : Width) → Fields d f cs g → Every Fits cs → FieldRefusal d n g found named
@@ -216,17 +216,17 @@ module _ {d : Dialect} where
   -- the model refuses what the grammar and the rules refuse
   pub refusal-complete : {w : Width} {n : ℕ} {f found named : Bytes} → Refuses d w n f found named → read d w f ≡ declined n found named
   unfolding read
-  refusal-complete {w} (here (in-record r t x)) = record-declined w r t x
+  refusal-complete {w} (here (in_record r t x)) = record-declined w r t x
   refusal-complete {w} (here (uneven {cs} r e t u)) = fit-first d w r e t ∙ no-cond (agrees d w (length cs)) _ _ u
   refusal-complete {w} (later {cs} r k t u x) =
-      begun-read d w r k ∙ (agreed w r (LineEnd.broken k) t u ∙ ap (above cs (inRecord dropped r) (alone k)) (refusal-complete x))
+      begun-read d w r k ∙ (agreed w r (LineEnd.broken k) t u ∙ ap (above cs (sum_in_record dropped r) (alone k)) (refusal-complete x))
 
 -- And back. What the model reads of a source, under a width:
 pub data Reads (d : Dialect) (w : Width) : Bytes → Table → ℕ → ℕ → Type 0 where
   reads_none : Reads d w [] [] 0 0
-  reads-some :
+  reads_some :
       {f : Bytes} {t : Table} {e : Ending} {m l : ℕ} (p : File d f t e)
-      → LastBreak e → Fine d w t → inFile dropped p ≡ m → alones p ≡ l → Reads d w f t m l
+      → LastBreak e → Fine d w t → sum_in_file dropped p ≡ m → alones p ≡ l → Reads d w f t m l
 
 abbrev pub Says : Dialect → Width → Bytes → Judged → Type 0
 Says d w f (declined n found named) = Refuses d w n f found named
@@ -234,17 +234,17 @@ Says d w f (taken t m l) = Reads d w f t m l
 
 -- the same of a source that begins with a record, of which j fields stand before it
 data Opens (d : Dialect) (w : Width) : ℕ → Bytes → Judged → Type 0 where
-  opens-read :
+  opens_read :
       {j m l i k : ℕ} {f g h : Bytes} {cs : List Content} {t : Table} (r : Record d f cs g) (e : LineEnd d g h)
       → Every Fits cs → T (agrees d w (count j cs)) → Reads d (settled w (count j cs)) h t i k
-      → inRecord dropped r + i ≡ m → aloneOf e + k ≡ l → Opens d w j f (taken (cs ∷ t) m l)
-  opens-wrong :
+      → sum_in_record dropped r + i ≡ m → alone_of e + k ≡ l → Opens d w j f (taken (cs ∷ t) m l)
+  opens_wrong :
       {j n : ℕ} {f g found named : Bytes} {cs : List Content}
       → Fields d f cs g → Every Fits cs → FieldRefusal d n g found named → Opens d w j f (declined n found named)
-  opens-uneven :
+  opens_uneven :
       {j : ℕ} {f g h : Bytes} {cs : List Content}
       → Record d f cs g → LineEnd d g h → Every Fits cs → (T (agrees d w (count j cs)) → ⊥) → Opens d w j f (declined 10 g g)
-  opens-later :
+  opens_later :
       {j n : ℕ} {f g h found named : Bytes} {cs : List Content}
       → Record d f cs g → Break d g h → Every Fits cs → T (agrees d w (count j cs)) → Refuses d (settled w (count j cs)) n h found named
       → Opens d w j f (declined n found named)
@@ -253,31 +253,31 @@ module _ {d : Dialect} where
   reads_more :
       {b m l i k : ℕ} {f g h : Bytes} {cs : List Content} {t : Table} {w : Width} (r : Record d (b ∷ f) cs g) (e : LineEnd d g h)
       → Every Fits cs → T (agrees d w (length cs)) → Reads d (settled w (length cs)) h t i k
-      → inRecord dropped r + i ≡ m → aloneOf e + k ≡ l → Reads d w (b ∷ f) (cs ∷ t) m l
-  unfolding inFile alones
-  reads_more {m} {l} r LineEnd.end t u reads_none p q = reads-some {m = m} {l = l} (File.one r) tt (t, u, tt) (omega arith) (omega arith)
-  reads_more r LineEnd.end t u (reads-some x l z i k) p q = absurd (file-nil x l)
-  reads_more {m} {l} r (LineEnd.broken e) t u reads_none p q = reads-some {m = m} {l = l} (File.ended r e) tt (t, u, tt) (omega arith) (omega arith)
-  reads_more {m} {l} r (LineEnd.broken e) t u (reads-some x o z i k) p q = reads-some {m = m} {l = l} (File.more r e x) o (t, u, z) (omega arith) (omega arith)
+      → sum_in_record dropped r + i ≡ m → alone_of e + k ≡ l → Reads d w (b ∷ f) (cs ∷ t) m l
+  unfolding sum_in_file alones
+  reads_more {m} {l} r LineEnd.end t u reads_none p q = reads_some {m = m} {l = l} (File.one r) tt (t, u, tt) (omega arith) (omega arith)
+  reads_more r LineEnd.end t u (reads_some x l z i k) p q = absurd (file-nil x l)
+  reads_more {m} {l} r (LineEnd.broken e) t u reads_none p q = reads_some {m = m} {l = l} (File.ended r e) tt (t, u, tt) (omega arith) (omega arith)
+  reads_more {m} {l} r (LineEnd.broken e) t u (reads_some x o z i k) p q = reads_some {m = m} {l = l} (File.more r e x) o (t, u, z) (omega arith) (omega arith)
 
   says : {b : ℕ} {f : Bytes} {a : Judged} (w : Width) → Opens d w 0 (b ∷ f) a → Says d w (b ∷ f) a
-  says w (opens-read {cs} r e t u x p q) = reads_more r e t (rw (count-is cs) at u) (rw (count-is cs) at x) p q
-  says w (opens-wrong r t x) = here (in-record r t x)
-  says w (opens-uneven {cs} r e t u) = here (uneven r e t (rw (count-is cs) at u))
-  says w (opens-later {cs} r k t u x) = later r k t (rw (count-is cs) at u) (rw (count-is cs) at x)
+  says w (opens_read {cs} r e t u x p q) = reads_more r e t (rw (count-is cs) at u) (rw (count-is cs) at x) p q
+  says w (opens_wrong r t x) = here (in_record r t x)
+  says w (opens_uneven {cs} r e t u) = here (uneven r e t (rw (count-is cs) at u))
+  says w (opens_later {cs} r k t u x) = later r k t (rw (count-is cs) at u) (rw (count-is cs) at x)
 
   -- a field before a record
   opens-beside :
       {b j n : ℕ} {f g : Bytes} {c : Content} {a : Judged} {w : Width} (p : Field d f c (b ∷ g)) → dropped f c (b ∷ g) p ≡ n
-      → classOf d b ≡ delimiter → Fits c → Opens d w (suc j) g a → Opens d w j f (beside (cell c n) a)
-  unfolding inRecord
-  opens-beside {n} p q e t (opens-read {m} r le u v x y z) = opens-read {m = n + m} (Record.more p e r) le (t, u) v x (omega arith) z
-  opens-beside p q e t (opens-wrong r u x) = opens-wrong (Fields.more p e r) (t, u) x
-  opens-beside p q e t (opens-uneven r le u v) = opens-uneven (Record.more p e r) le (t, u) v
-  opens-beside p q e t (opens-later r k u v x) = opens-later (Record.more p e r) k (t, u) v x
+      → class_of d b ≡ delimiter → Fits c → Opens d w (suc j) g a → Opens d w j f (beside (cell c n) a)
+  unfolding sum_in_record
+  opens-beside {n} p q e t (opens_read {m} r le u v x y z) = opens_read {m = n + m} (Record.more p e r) le (t, u) v x (omega arith) z
+  opens-beside p q e t (opens_wrong r u x) = opens_wrong (Fields.more p e r) (t, u) x
+  opens-beside p q e t (opens_uneven r le u v) = opens_uneven (Record.more p e r) le (t, u) v
+  opens-beside p q e t (opens_later r k u v x) = opens_later (Record.more p e r) k (t, u) v x
 
   nothing-wrong : {n : ℕ} {w : Width} {found named : Bytes} → Refuses d w n [] found named → ⊥
-  nothing-wrong (here (in-record r t x)) =
+  nothing-wrong (here (in_record r t x)) =
       let z : ◌≡◌ {A = ℕ} 0 1 = cc (record-declined any r t x, read_none d any) in
       omega arith
   nothing-wrong (later r k t u x) = break-nil k (record-nil r)
@@ -286,36 +286,36 @@ module _ {d : Dialect} where
   opens-above :
       {j n : ℕ} {f g h : Bytes} {c : Content} {w : Width} (a : Judged) (p : Field d f c g) → dropped f c g p ≡ n
       → (e : LineEnd d g h) → Fits c → T (agrees d w (suc j)) → Says d (settled w (suc j)) h a
-      → Opens d w j f (above (c ∷ []) n (aloneOf e) a)
-  unfolding inRecord
-  opens-above (declined i a b) p q (LineEnd.broken k) t u x = opens-later (Record.one p) k (t, tt) u x
+      → Opens d w j f (above (c ∷ []) n (alone_of e) a)
+  unfolding sum_in_record
+  opens-above (declined i a b) p q (LineEnd.broken k) t u x = opens_later (Record.one p) k (t, tt) u x
   opens-above (declined i a b) p q LineEnd.end t u x = absurd (nothing-wrong x)
-  opens-above {n} (taken s i k) p q e t u x = opens-read {m = n + i} (Record.one p) e (t, tt) u x (omega arith) refl
+  opens-above {n} (taken s i k) p q e t u x = opens_read {m = n + i} (Record.one p) e (t, tt) u x (omega arith) refl
 
   opens-end :
       {j n l : ℕ} {f g h : Bytes} {c : Content} {w : Width} (a : Judged) (p : Field d f c g) → dropped f c g p ≡ n
-      → (e : LineEnd d g h) → aloneOf e ≡ l → Says d (settled w (suc j)) h a → Opens d w j f (lineEnds d w j f (cell c n) l g a)
+      → (e : LineEnd d g h) → alone_of e ≡ l → Says d (settled w (suc j)) h a → Opens d w j f (line_ends d w j f (cell c n) l g a)
   opens-end {j} {f} {g} {c} {w} a p q e o x =
       rw (← o)
       (decide (Opens d w j f) (fits c)
       (λ t.
       decide (Opens d w j f) (agrees d w (suc j)) (λ u. opens-above a p q e (fits-true c t) (rw u tt) x)
-      (λ u. opens-uneven (Record.one p) e (fits-true c t, tt) (λ v. rw u at v)))
-      (λ t. opens-wrong Fields.none tt (refusal-9 p (lined e) (fits-false c t))))
+      (λ u. opens_uneven (Record.one p) e (fits-true c t, tt) (λ v. rw u at v)))
+      (λ t. opens_wrong Fields.none tt (refusal_9 p (lined e) (fits-false c t))))
 
   opens : {f : Bytes} {r : Trace} (w : Width) (j : ℕ) → Means d start [] f r → Opens d w j f (judge d w j f r)
-  opens w j (is-wrong x) = opens-wrong Fields.none tt (fault (wrong-fault x))
-  opens w j (is-bad (from_start p q) x) = opens-wrong Fields.none tt (fault (bad-fault p x))
+  opens w j (is_wrong x) = opens_wrong Fields.none tt (fault (wrong-fault x))
+  opens w j (is_bad (from_start p q) x) = opens_wrong Fields.none tt (fault (bad-fault p x))
   opens w j (is_last (from_start p q)) = opens-end (taken [] 0 0) p q LineEnd.end refl reads_none
-  opens w j (is-ended (from_start p q) k o) = opens-end (taken [] 0 0) p q (LineEnd.broken k) o reads_none
+  opens w j (is_ended (from_start p q) k o) = opens-end (taken [] 0 0) p q (LineEnd.broken k) o reads_none
   opens {f} w j (is_field (from_start {c} p q) e m) =
       decide (Opens d w j f) (fits c) (λ t. opens-beside p q e (fits-true c t) (opens w (suc j) m))
-      (λ t. opens-wrong Fields.none tt (refusal-9 p (delimited e) (fits-false c t)))
-  opens w j (is-line {b} {h} {r} (from_start p q) k o m) =
+      (λ t. opens_wrong Fields.none tt (refusal_9 p (delimited e) (fits-false c t)))
+  opens w j (is_line {b} {h} {r} (from_start p q) k o m) =
       opens-end (judge d (settled w (suc j)) 0 (b ∷ h) r) p q (LineEnd.broken k) o (says (settled w (suc j)) (opens (settled w (suc j)) 0 m))
 
 -- what the model says of a source, the grammar and the rules say
 pub read-sound : (d : Dialect) (w : Width) (f : Bytes) → Says d w f (read d w f)
 unfolding read
 read-sound d w [] = reads_none
-read-sound d w (b ∷ f) = says w (opens w 0 (sound d (b ∷ f)).at-start)
+read-sound d w (b ∷ f) = says w (opens w 0 (sound d (b ∷ f)).at_start)

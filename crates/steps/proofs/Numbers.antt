@@ -7,9 +7,9 @@ use native.Mathlib.Omega.{arith}
 use lib.Dec.{eqb, leb}
 use borrow.Author.Tests.{ne_eqb, le-leb}
 use Rattle.format.specs.Dialect.{Class, text, blank, delimiter, quote, CR, LF, forbidden}
-use Rattle.format.proofs.Classes.{specialClass}
-use Rattle.steps.specs.Steps.{Form, start, lead, bare, quoted, shut, tail, cr, inQuotes, behindCr, isBlank}
-use Rattle.steps.specs.Numbers.{formNumber, classNumber, form_of, classFrom}
+use Rattle.format.proofs.Classes.{special_class}
+use Rattle.steps.specs.Steps.{Form, start, lead, bare, quoted, shut, tail, cr, is_in_quotes, is_behind_cr, is_blank}
+use Rattle.steps.specs.Numbers.{form_number, class_number, form_of, class_from}
 
 abbrev pub six+ : ℕ → ℕ
 six+ n = suc (suc (suc (suc (suc (suc n)))))
@@ -25,33 +25,33 @@ by_number P p₀ p₁ p₂ p₃ p₄ p₅ p (suc (suc (suc (suc (suc zero))))) =
 by_number P p₀ p₁ p₂ p₃ p₄ p₅ p (suc (suc (suc (suc (suc (suc n)))))) = p n
 
 -- a number that stands for a form or a class, and what the rules ask of it
-pub form-at : (n : ℕ) → formNumber (form_of n) ≡ min n 6
+pub form-at : (n : ℕ) → form_number (form_of n) ≡ min n 6
 unfolding form_of
-form-at = by_number (λ n. formNumber (form_of n) ≡ min n 6) refl refl refl refl refl refl (λ n. sym (min-eq_right (omega arith)))
+form-at = by_number (λ n. form_number (form_of n) ≡ min n 6) refl refl refl refl refl refl (λ n. sym (min-eq_right (omega arith)))
 
-pub form-number : (n : ℕ) → n ≤ 6 → formNumber (form_of n) ≡ n
+pub form-number : (n : ℕ) → n ≤ 6 → form_number (form_of n) ≡ n
 form-number n h = form-at n ∙ min-eq_left h
 
-pub class-at : (n : ℕ) → classNumber (classFrom n) ≡ min n 6
-unfolding classFrom
-class-at = by_number (λ n. classNumber (classFrom n) ≡ min n 6) refl refl refl refl refl refl (λ n. sym (min-eq_right (omega arith)))
+pub class-at : (n : ℕ) → class_number (class_from n) ≡ min n 6
+unfolding class_from
+class-at = by_number (λ n. class_number (class_from n) ≡ min n 6) refl refl refl refl refl refl (λ n. sym (min-eq_right (omega arith)))
 
-pub quotes-at : (n : ℕ) → inQuotes (form_of n) ≡ (eqb n (formNumber quoted) || eqb n (formNumber shut))
+pub quotes-at : (n : ℕ) → is_in_quotes (form_of n) ≡ (eqb n (form_number quoted) || eqb n (form_number shut))
 unfolding form_of
 quotes-at =
-    by_number (λ n. inQuotes (form_of n) ≡ (eqb n 3 || eqb n 4)) refl refl refl refl refl refl
+    by_number (λ n. is_in_quotes (form_of n) ≡ (eqb n 3 || eqb n 4)) refl refl refl refl refl refl
     (λ n. rw (ne_eqb (six+ n) 3 (omega arith), ne_eqb (six+ n) 4 (omega arith)))
 
-pub cr-at : (n : ℕ) → behindCr (form_of n) ≡ leb (formNumber cr) n
+pub cr-at : (n : ℕ) → is_behind_cr (form_of n) ≡ leb (form_number cr) n
 unfolding form_of
-cr-at = by_number (λ n. behindCr (form_of n) ≡ leb 6 n) refl refl refl refl refl refl (λ n. sym (le-leb 6 (six+ n) (omega arith)))
+cr-at = by_number (λ n. is_behind_cr (form_of n) ≡ leb 6 n) refl refl refl refl refl refl (λ n. sym (le-leb 6 (six+ n) (omega arith)))
 
-pub behind-number : (k : Form) → leb (formNumber cr) (formNumber k) ≡ behindCr k
+pub behind-number : (k : Form) → leb (form_number cr) (form_number k) ≡ is_behind_cr k
 behind-number = elim [ start ↦ refl | lead ↦ refl | bare ↦ refl | quoted ↦ refl | shut ↦ refl | tail ↦ refl | cr ↦ refl ]
 
-pub blank-at : (n : ℕ) → isBlank (classFrom n) ≡ eqb n (classNumber blank)
-unfolding classFrom
-blank-at = by_number (λ n. isBlank (classFrom n) ≡ eqb n 1) refl refl refl refl refl refl (λ n. sym (ne_eqb (six+ n) 1 (omega arith)))
+pub blank-at : (n : ℕ) → is_blank (class_from n) ≡ eqb n (class_number blank)
+unfolding class_from
+blank-at = by_number (λ n. is_blank (class_from n) ≡ eqb n 1) refl refl refl refl refl refl (λ n. sym (ne_eqb (six+ n) 1 (omega arith)))
 
 -- n is none of the numbers below k
 abbrev pub NoneBelow : ℕ → ℕ → Type 0
@@ -63,7 +63,7 @@ past n zero h = omega arith
 past n (suc k) h = omega (arith, past n k h.0, h.1)
 
 -- the numbers of a forbidden byte and of special bytes
-pub forbidden-number : (x : Class) → classNumber x ≡ classNumber forbidden → x ≡ forbidden
+pub forbidden-number : (x : Class) → class_number x ≡ class_number forbidden → x ≡ forbidden
 forbidden-number text e = absurd (omega (arith, e))
 forbidden-number blank e = absurd (omega (arith, e))
 forbidden-number delimiter e = absurd (omega (arith, e))
@@ -72,7 +72,7 @@ forbidden-number CR e = absurd (omega (arith, e))
 forbidden-number LF e = absurd (omega (arith, e))
 forbidden-number forbidden e = refl
 
-pub special-number : (x : Class) → specialClass x ≡ (leb (classNumber delimiter) (classNumber x) && leb (classNumber x) (classNumber LF))
+pub special-number : (x : Class) → special_class x ≡ (leb (class_number delimiter) (class_number x) && leb (class_number x) (class_number LF))
 special-number text = refl
 special-number blank = refl
 special-number delimiter = refl

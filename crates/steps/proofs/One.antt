@@ -9,20 +9,20 @@ use lib.Dec.{eqb}
 use lib.ListN.{length, take, replicate, length-append, length-replicate}
 use lib.Seq.{take_at}
 use Rattle.format.specs.Table.{Bytes, Content, Table}
-use Rattle.format.specs.Dialect.{Dialect, text, quote, CR, LF, classOf}
+use Rattle.format.specs.Dialect.{Dialect, text, quote, CR, LF, class_of}
 use Rattle.format.specs.Grammar.{padded, Blanks, Bare, Open, opened, closed, Field, Record, Break}
 use Rattle.format.specs.Count.{dropped, alone}
-use Rattle.format.specs.Refusal.{refusal-5, refusal-6, refusal-8, Fields, Records}
+use Rattle.format.specs.Refusal.{refusal_5, refusal_6, refusal_8, Fields, Records}
 use Rattle.format.specs.SoFar.{Begun, SoFar, so_far}
 use Rattle.format.proofs.Classes.{some-text, quote-is}
 use Rattle.format.proofs.Grow.{blanks-grow, open-grow, quoted-grow, field-grow, field_cut}
 use Rattle.steps.specs.Steps.{start, bare, quoted, tail}
-use Rattle.steps.specs.Numbers.{classNumber}
+use Rattle.steps.specs.Numbers.{class_number}
 use Rattle.steps.specs.Model.{Cell, cell, Trace, refused, last, field, line, ending, run}
 use Rattle.steps.proofs.Acts.{run_end}
-use Rattle.steps.proofs.Complete.{set, at-end, fields, field-then, break-stops, break-ending}
+use Rattle.steps.proofs.Complete.{set, at_end, fields, field-then, break-stops, break-ending}
 use Rattle.steps.proofs.Faults.{fault-refused}
-use Rattle.steps.proofs.Forms.{At, at_bare, at-quoted, first-text, put-bare, put-quoted}
+use Rattle.steps.proofs.Forms.{At, at_bare, at_quoted, first-text, put-bare, put-quoted}
 
 -- the records that are closed, the fields of the next one, and the rest that begins with the field that has begun
 data Parts : Type 0 where
@@ -61,20 +61,20 @@ module _ (d : Dialect) where
   trace f = run d f start []
 
   -- the content of the field h so far: of an open one with its closing quote, and of one before a CR without it
-  abbrev contentBy : Trace → Bytes → Content
-  contentBy (refused n a p) h = content (trace (cond (eqb n 8) (h ++ (0x22 ∷ [])) (take (length h - 1) h)))
-  contentBy (last x l a) h = x.content
-  contentBy (field x a g r) h = []
-  contentBy (line x l a g r) h = []
+  abbrev content_by : Trace → Bytes → Content
+  content_by (refused n a p) h = content (trace (cond (eqb n 8) (h ++ (0x22 ∷ [])) (take (length h - 1) h)))
+  content_by (last x l a) h = x.content
+  content_by (field x a g r) h = []
+  content_by (line x l a g r) h = []
 
   whole : {h : Bytes} {c : Content} (p : Field d h c []) → trace h ≡ last (cell c (dropped h c [] p)) 0 []
-  whole {h} {c} p = fields d p at-end ∙ ap (set (cell c (dropped h c [] p))) (run_end d tail [])
+  whole {h} {c} p = fields d p at_end ∙ ap (set (cell c (dropped h c [] p))) (run_end d tail [])
 
   open-trace : {h q : Bytes} {c : Content} → Blanks d h q → Open d q c [] → trace h ≡ refused 8 [] q
-  open-trace x k = fault-refused d (refusal-8 x k)
+  open-trace x k = fault-refused d (refusal_8 x k)
 
-  cr-trace : {b : ℕ} {h : Bytes} {c : Content} → Field d h c (b ∷ []) → classOf d b ≡ CR → trace h ≡ refused 6 (b ∷ []) (b ∷ [])
-  cr-trace p e = fault-refused d (refusal-6 p e tt)
+  cr-trace : {b : ℕ} {h : Bytes} {c : Content} → Field d h c (b ∷ []) → class_of d b ≡ CR → trace h ≡ refused 6 (b ∷ []) (b ∷ [])
+  cr-trace p e = fault-refused d (refusal_6 p e tt)
 
   -- blanks alone are a field, of no content
   nothing : {h : Bytes} → Blanks d h [] → Field d h [] []
@@ -87,11 +87,11 @@ module _ (d : Dialect) where
   begun-parts (Begun.bare x k p y q) = rw (whole (Field.bare x k p y))
   begun-parts (Begun.inside x k) = rw (open-trace x k)
   begun-parts (Begun.shut x k y) = rw (whole (Field.quoted x k y))
-  begun-parts (Begun.before-cr p e) = rw (cr-trace p e)
+  begun-parts (Begun.before_cr p e) = rw (cr-trace p e)
 
   closed-trace : {h q : Bytes} {c : Content} → Blanks d h q → Open d q c [] → content (trace (h ++ (0x22 ∷ []))) ≡ c
   closed-trace x (opened {b} e k) =
-      let q : classOf d 0x22 ≡ quote = rw (quote-is d b e) at e in
+      let q : class_of d 0x22 ≡ quote = rw (quote-is d b e) at e in
       rw (whole (Field.quoted (blanks-grow d (0x22 ∷ []) x) (closed (open-grow d (0x22 ∷ []) (opened e k)) q) Blanks.none))
 
   cut-trace : {b : ℕ} {h : Bytes} {c : Content} → Field d h c (b ∷ []) → content (trace (take (length h - 1) h)) ≡ c
@@ -100,15 +100,15 @@ module _ (d : Dialect) where
       let n : length f ≡ length h - 1 = omega (arith, ap length e ∙ length-append f (b ∷ [])) in
       ap (λ (g : Bytes). content (trace (take (length h - 1) g))) e ∙ (ap (λ (g : Bytes). content (trace g)) (take_at f (b ∷ []) (length h - 1) n) ∙ ap content (whole q))
 
-  begun-content : {h : Bytes} {c : Content} {n : ℕ} → Begun d h c n → contentBy (trace h) h ≡ c
+  begun-content : {h : Bytes} {c : Content} {n : ℕ} → Begun d h c n → content_by (trace h) h ≡ c
   begun-content (Begun.empty x) = rw (whole (nothing x))
   begun-content (Begun.bare x k p y q) = rw (whole (Field.bare x k p y))
   begun-content (Begun.inside x k) = rw (open-trace x k) (closed-trace x k)
   begun-content (Begun.shut x k y) = rw (whole (Field.quoted x k y))
-  begun-content (Begun.before-cr p e) = rw (cr-trace p e) (cut-trace p)
+  begun-content (Begun.before_cr p e) = rw (cr-trace p e) (cut-trace p)
 
   -- the blanks held, by a byte of text behind the field: it is content behind them, or a fault
-  module _ (b : ℕ) (e : classOf d b ≡ text) where
+  module _ (b : ℕ) (e : class_of d b ≡ text) where
     abbrev more : Bytes
     more = b ∷ []
 
@@ -116,18 +116,18 @@ module _ (d : Dialect) where
     bare-longer h c n (at_bare x k p y q) l = rw (whole (Field.bare x k p y)) (omega (arith, l))
 
     open-longer : (h : Bytes) (c : Content) {i : Content} → At d quoted (h ++ more) i 0 → longer (trace (h ++ more)) c ≡ 0
-    open-longer h c (at-quoted x k) = rw (open-trace x k)
+    open-longer h c (at_quoted x k) = rw (open-trace x k)
 
     begun-held : {h : Bytes} {c : Content} {n : ℕ} → Begun d h c n → longer (trace (h ++ more)) c ≡ n
     begun-held {h} (Begun.empty x) = bare-longer h [] 0 (first-text d b h x e) refl
     begun-held {h} (Begun.bare {a} {n} {c} x k p y q) =
         bare-longer h (a ∷ c) n (put-bare d b (at_bare x k p y q) e)
         (omega (arith, length-append (a ∷ c) (replicate n 0x20 ++ more), length-append (replicate n 0x20) more, length-replicate {A = ℕ} n 0x20))
-    begun-held {h} {c} (Begun.inside x k) = open-longer h c (put-quoted d b (at-quoted x k) text tt e)
-    begun-held (Begun.shut x k y) = rw (fault-refused d (refusal-5 (blanks-grow d more x) (quoted-grow d more k) (blanks-grow d more y) e))
-    begun-held (Begun.before-cr p i) =
-        let no-lf : classOf d b ≡ LF → ⊥ = λ l. let z : classNumber text ≡ classNumber LF = ap classNumber (sym e ∙ l) in omega arith in
-        rw (fault-refused d (refusal-6 (field-grow d more p) i no-lf))
+    begun-held {h} {c} (Begun.inside x k) = open-longer h c (put-quoted d b (at_quoted x k) text tt e)
+    begun-held (Begun.shut x k y) = rw (fault-refused d (refusal_5 (blanks-grow d more x) (quoted-grow d more k) (blanks-grow d more y) e))
+    begun-held (Begun.before_cr p i) =
+        let no_lf : class_of d b ≡ LF → ⊥ = λ l. let z : class_number text ≡ class_number LF = ap class_number (sym e ∙ l) in omega arith in
+        rw (fault-refused d (refusal_6 (field-grow d more p) i no_lf))
 
   -- what is closed before it
   fields-parts : {g h : Bytes} {cs : List Content} → Fields d g cs h → parts h (trace h) ≡ part [] [] h → parts g (trace g) ≡ part [] cs h
@@ -143,7 +143,7 @@ module _ (d : Dialect) where
     where
       by : {g : Bytes} (m : ℕ) (k : Break d g h) → parts f (set (cell c m) (ending (alone k) g h (trace h))) ≡ above c (parts h (trace h))
       by m (Break.crlf {a} {b} e i) = ending-parts (cell c m) (alone (Break.crlf e i)) f a (b ∷ h) h
-      by m (Break.lf-alone {b} e i) = ending-parts (cell c m) (alone (Break.lf-alone e i)) f b h h
+      by m (Break.lf_alone {b} e i) = ending-parts (cell c m) (alone (Break.lf_alone e i)) f b h h
 
   record-parts :
       {f g h i : Bytes} {cs es : List Content} {t : Table} → Record d f es g → Break d g h → parts h (trace h) ≡ part t cs i → parts f (trace f) ≡ part (es ∷ t) cs i
@@ -164,5 +164,5 @@ module _ (d : Dialect) where
       let v = records-parts r (fields-parts x (begun-parts p)) in
       let w = records-parts s (fields-parts y (begun-parts q)) in
       let z : h ≡ i = cc in
-      let o = sym (begun-content p) ∙ (ap (λ (l : Bytes). contentBy (trace l) l) z ∙ begun-content q) in
+      let o = sym (begun-content p) ∙ (ap (λ (l : Bytes). content_by (trace l) l) z ∙ begun-content q) in
       (cc, cc, o, sym (begun-held b a p) ∙ ((λ j. longer (trace (z j ++ (b ∷ []))) (o j)) ∙ begun-held b a q))

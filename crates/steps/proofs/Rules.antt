@@ -6,33 +6,33 @@ use mathlib.Core.List.{[], map}
 use lib.ListN.{get_or, get_or-map}
 use Rattle.format.specs.Dialect.{Class, text, blank, delimiter, quote, CR, LF, forbidden}
 use Rattle.steps.specs.Steps.{Form, start, lead, bare, quoted, shut, tail, cr, next, step_of}
-use Rattle.steps.specs.Numbers.{formNumber, classNumber, form_of, classFrom, move_of, coded, forms, classes, stepTable, stepBy}
+use Rattle.steps.specs.Numbers.{form_number, class_number, form_of, class_from, move_of, coded, forms, classes, step_table, step_by}
 use Rattle.steps.proofs.Numbers.{form-at, class-at}
 
 module _ {A : Type 0} where
-  at-form : (f : Form → A) (a : A) (k : Form) → get_or (map f forms) (formNumber k) a ≡ f k
+  at-form : (f : Form → A) (a : A) (k : Form) → get_or (map f forms) (form_number k) a ≡ f k
   at-form f a = elim [ start ↦ refl | lead ↦ refl | bare ↦ refl | quoted ↦ refl | shut ↦ refl | tail ↦ refl | cr ↦ refl ]
 
-  at-class : (f : Class → A) (a : A) (x : Class) → get_or (map f classes) (classNumber x) a ≡ f x
+  at-class : (f : Class → A) (a : A) (x : Class) → get_or (map f classes) (class_number x) a ≡ f x
   at-class f a = elim [ text ↦ refl | blank ↦ refl | delimiter ↦ refl | quote ↦ refl | CR ↦ refl | LF ↦ refl | forbidden ↦ refl ]
 
 -- the test, over the whole table at once: each number stands for its entry
-same-table : map (map move_of) stepTable ≡ map (λ k. map (next k) classes) forms
-unfolding stepTable move_of form_of
+same-table : map (map move_of) step_table ≡ map (λ k. map (next k) classes) forms
+unfolding step_table move_of form_of
 same-table = refl
 
-pub entry-is : (k : Form) (x : Class) → move_of (get_or (get_or stepTable (formNumber k) []) (classNumber x) 0) ≡ next k x
+pub entry-is : (k : Form) (x : Class) → move_of (get_or (get_or step_table (form_number k) []) (class_number x) 0) ≡ next k x
 entry-is k x =
     rw (← get_or-map move_of, ← get_or-map (map move_of), same-table, at-form, at-class)
 
-pub form-back : (k : Form) → form_of (formNumber k) ≡ k
+pub form-back : (k : Form) → form_of (form_number k) ≡ k
 unfolding form_of
 form-back = elim [ start ↦ refl | lead ↦ refl | bare ↦ refl | quoted ↦ refl | shut ↦ refl | tail ↦ refl | cr ↦ refl ]
 
-pub class_back : (x : Class) → classFrom (classNumber x) ≡ x
-unfolding classFrom
+pub class_back : (x : Class) → class_from (class_number x) ≡ x
+unfolding class_from
 class_back = elim [ text ↦ refl | blank ↦ refl | delimiter ↦ refl | quote ↦ refl | CR ↦ refl | LF ↦ refl | forbidden ↦ refl ]
 
-pub step-any : (lf : Bool) (form class : ℕ) → stepBy stepTable lf form class ≡ coded (step_of lf (form_of form) (classFrom class))
-unfolding stepBy step_of
+pub step-any : (lf : Bool) (form class : ℕ) → step_by step_table lf form class ≡ coded (step_of lf (form_of form) (class_from class))
+unfolding step_by step_of
 step-any lf form class = rw (← form-at form, ← class-at class, entry-is)

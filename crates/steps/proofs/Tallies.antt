@@ -10,7 +10,7 @@ use lib.Dec.{eqb, leb, eqb-suc-zero}
 use lib.ListN.{length, length-append}
 use Rattle.format.specs.Table.{Bytes, Content, Table}
 use Rattle.format.specs.Dialect.{ragged, Dialect}
-use Rattle.format.specs.House.{differs, contentLimit}
+use Rattle.format.specs.House.{differs, content_limit}
 use Rattle.format.specs.Count.{some}
 use Rattle.format.proofs.Classes.{decide}
 use Rattle.steps.specs.Model.{Cell, Trace, refused, last, field, line, Judged, declined, taken, Width, any, just, settled, agrees, beside, above, fits, judge}
@@ -44,9 +44,9 @@ abbrev pub fresh : Account → Work
 fresh a = record { account = a; content = 0; held = 0 }
 
 -- the width of the first record, 0 before its end
-abbrev pub widthFrom : ℕ → Width
-widthFrom zero = any
-widthFrom (suc n) = just (suc n)
+abbrev pub width_from : ℕ → Width
+width_from zero = any
+width_from (suc n) = just (suc n)
 
 -- a record of n fields is as wide as the first, or is the first
 abbrev pub even : ℕ → ℕ → Bool
@@ -66,29 +66,29 @@ abbrev pub closed : Account → Ans Total
 closed a = gives (record { sums = a.sums; flags = a.flags })
 
 -- a field of m bytes and h blanks held, whose rest is the cell x: how long its content is, whether it drops a blank
-abbrev pub contentWith : ℕ → ℕ → Content → ℕ
-contentWith m h [] = m
-contentWith m h (y ∷ c) = m + (h + length (y ∷ c))
+abbrev pub content_with : ℕ → ℕ → Content → ℕ
+content_with m h [] = m
+content_with m h (y ∷ c) = m + (h + length (y ∷ c))
 
 abbrev pub lost : ℕ → Content → Bool
 lost h [] = some h
 lost h (y ∷ c) = false
 
-abbrev pub dropsIn : ℕ → Cell → Bool
-dropsIn h x = some x.drops || lost h x.content
+abbrev pub drops_in : ℕ → Cell → Bool
+drops_in h x = some x.drops || lost h x.content
 
-abbrev pub addField : Sums → ℕ → Sums
-addField s n = record { records = s.records; fields = s.fields + 1; text = s.text + n }
+abbrev pub add_field : Sums → ℕ → Sums
+add_field s n = record { records = s.records; fields = s.fields + 1; text = s.text + n }
 
-abbrev pub addRecord : Sums → ℕ → Sums
-addRecord s n = record { records = s.records + 1; fields = s.fields + 1; text = s.text + n }
+abbrev pub add_record : Sums → ℕ → Sums
+add_record s n = record { records = s.records + 1; fields = s.fields + 1; text = s.text + n }
 
-abbrev pub flagRecord : Bool → Bool → Bool → Flags → Flags
-flagRecord l x u v = record { lf = l || v.lf; blanks = x || v.blanks; ragged = u || v.ragged }
+abbrev pub flag_record : Bool → Bool → Bool → Flags → Flags
+flag_record l x u v = record { lf = l || v.lf; blanks = x || v.blanks; ragged = u || v.ragged }
 
 -- the account with another flag for blanks
-abbrev pub withBlanks : Bool → Account → Account
-withBlanks x a =
+abbrev pub with_blanks : Bool → Account → Account
+with_blanks x a =
     let v : Flags = record { lf = a.flags.lf; blanks = x; ragged = a.flags.ragged } in
     record { width = a.width; number = a.number; start = a.start; sums = a.sums; flags = v }
 
@@ -96,44 +96,44 @@ withBlanks x a =
 abbrev pub whole : Work → Cell → Work
 whole w x =
     record {
-      account = withBlanks (dropsIn w.held x || w.account.flags.blanks) w.account;
-      content = contentWith w.content w.held x.content;
+      account = with_blanks (drops_in w.held x || w.account.flags.blanks) w.account;
+      content = content_with w.content w.held x.content;
       held = 0;
     }
 
 -- a whole field ends, and the next one begins at g, in its record or, with l for an LF alone, in the next
-abbrev pub fieldOn : Bytes → Work → Account
-fieldOn g w =
+abbrev pub field_on : Bytes → Work → Account
+field_on g w =
     let a = w.account in
-    record { width = a.width; number = suc a.number; start = g; sums = addField a.sums w.content; flags = a.flags }
+    record { width = a.width; number = suc a.number; start = g; sums = add_field a.sums w.content; flags = a.flags }
 
-abbrev pub recordOn : Bool → Bytes → Work → Account
-recordOn l g w =
+abbrev pub record_on : Bool → Bytes → Work → Account
+record_on l g w =
     let a = w.account in
     record {
       width = cond (eqb a.width 0) (suc a.number) a.width;
       number = 0;
       start = g;
-      sums = addRecord a.sums w.content;
-      flags = flagRecord l false (not (even a.width (suc a.number))) a.flags;
+      sums = add_record a.sums w.content;
+      flags = flag_record l false (not (even a.width (suc a.number))) a.flags;
     }
 
 -- the limits, where a whole field ends, and where it ends its record at p: k is what follows
-abbrev pub fieldUp : {A : Type 0} → Work → Ans A → Ans A
-fieldUp w k = cond (leb w.content contentLimit) k (stop 9 w.account.start)
+abbrev pub field_up : {A : Type 0} → Work → Ans A → Ans A
+field_up w k = cond (leb w.content content_limit) k (stop 9 w.account.start)
 
-abbrev pub recordUp : {A : Type 0} → Dialect → Work → Bytes → Ans A → Ans A
-recordUp d w p k = fieldUp w (cond (agrees d (widthFrom w.account.width) (suc w.account.number)) k (stop 10 p))
+abbrev pub record_up : {A : Type 0} → Dialect → Work → Bytes → Ans A → Ans A
+record_up d w p k = field_up w (cond (agrees d (width_from w.account.width) (suc w.account.number)) k (stop 10 p))
 
 -- what holds of a refusal by them and of what follows
-pub field-up : {A : Type 0} (P : Ans A → Type 0) (w : Work) (k : Ans A) → P k → P (stop 9 w.account.start) → P (fieldUp w k)
-field-up P w k x y = decide P (leb w.content contentLimit) (λ e. x) (λ e. y)
+pub field-up : {A : Type 0} (P : Ans A → Type 0) (w : Work) (k : Ans A) → P k → P (stop 9 w.account.start) → P (field_up w k)
+field-up P w k x y = decide P (leb w.content content_limit) (λ e. x) (λ e. y)
 
-pub record-up : {A : Type 0} (P : Ans A → Type 0) (d : Dialect) (w : Work) (p : Bytes) (k : Ans A) → P k → P (stop 10 p) → P (stop 9 w.account.start) → P (recordUp d w p k)
-record-up P d w p k x y z = field-up P w _ (decide P (agrees d (widthFrom w.account.width) (suc w.account.number)) (λ e. x) (λ e. y)) z
+pub record-up : {A : Type 0} (P : Ans A → Type 0) (d : Dialect) (w : Work) (p : Bytes) (k : Ans A) → P k → P (stop 10 p) → P (stop 9 w.account.start) → P (record_up d w p k)
+record-up P d w p k x y z = field-up P w _ (decide P (agrees d (width_from w.account.width) (suc w.account.number)) (λ e. x) (λ e. y)) z
 
 -- a width agrees where it is even or need not be
-pub agrees-even : (d : Dialect) (z j : ℕ) → (d.allows ragged || even z (suc j)) ≡ agrees d (widthFrom z) (suc j)
+pub agrees-even : (d : Dialect) (z j : ℕ) → (d.allows ragged || even z (suc j)) ≡ agrees d (width_from z) (suc j)
 unfolding agrees
 agrees-even d zero j = or-true (d.allows ragged)
 agrees-even d (suc z) j = rw (eqb-suc-zero z)
@@ -141,9 +141,9 @@ agrees-even d (suc z) j = rw (eqb-suc-zero z)
 -- what a trace comes to, from inside a field
 abbrev pub goes : Dialect → Work → Trace → Ans Total
 goes d w (refused n a p) = stop n p
-goes d w (last x l a) = recordUp d (whole w x) a (closed (recordOn (some l) [] (whole w x)))
-goes d w (field x a g r) = fieldUp (whole w x) (goes d (fresh (fieldOn g (whole w x))) r)
-goes d w (line x l a g r) = recordUp d (whole w x) a (goes d (fresh (recordOn (some l) g (whole w x))) r)
+goes d w (last x l a) = record_up d (whole w x) a (closed (record_on (some l) [] (whole w x)))
+goes d w (field x a g r) = field_up (whole w x) (goes d (fresh (field_on g (whole w x))) r)
+goes d w (line x l a g r) = record_up d (whole w x) a (goes d (fresh (record_on (some l) g (whole w x))) r)
 
 -- the sums and flags of what the model reads: the first record has the account's number of fields more
 abbrev pub tallied : Account → Judged → Ans Total
@@ -155,7 +155,7 @@ tallied a (taken (cs ∷ t) m l) =
     gives
     (record {
       sums = record { records = s.records + suc (length t); fields = s.fields + length (flatten (cs ∷ t)); text = s.text + length (flatten (flatten (cs ∷ t))) };
-      flags = flagRecord (some l) (some m) (not (even a.width n) || differs (cond (eqb a.width 0) n a.width) t) a.flags;
+      flags = flag_record (some l) (some m) (not (even a.width n) || differs (cond (eqb a.width 0) n a.width) t) a.flags;
     })
 
 -- the model judges of a trace that a record is there
@@ -191,18 +191,18 @@ pub some-plus : (a b : ℕ) → some (a + b) ≡ (some a || some b)
 some-plus zero b = ap some (zero-add b)
 some-plus (suc a) b = rw (suc-add a b, eqb-suc-zero a, eqb-suc-zero (a + b))
 
-content-with-none : (c : Content) → contentWith 0 0 c ≡ length c
+content-with-none : (c : Content) → content_with 0 0 c ≡ length c
 content-with-none [] = refl
 content-with-none (y ∷ c) = omega arith
 
-drops-none : (x : Cell) → dropsIn 0 x ≡ some x.drops
+drops-none : (x : Cell) → drops_in 0 x ≡ some x.drops
 drops-none x = go x.content
   where
     go : (c : Content) → (some x.drops || lost 0 c) ≡ some x.drops
     go [] = or-false (some x.drops)
     go (y ∷ c) = or-false (some x.drops)
 
-settled-width : (z j : ℕ) → settled (widthFrom z) (suc j) ≡ widthFrom (cond (eqb z 0) (suc j) z)
+settled-width : (z j : ℕ) → settled (width_from z) (suc j) ≡ width_from (cond (eqb z 0) (suc j) z)
 settled-width zero j = refl
 settled-width (suc z) j = rw (eqb-suc-zero z)
 
@@ -225,9 +225,9 @@ one-text : (c : Content) (t : Table) → length (flatten (flatten ((c ∷ []) �
 unfolding flatten
 one-text c t = length-append c (flatten (flatten t))
 
-one_field : (c : Content) (t : Table) → length (flatten ((c ∷ []) ∷ t)) ≡ suc (length (flatten t))
+one-field : (c : Content) (t : Table) → length (flatten ((c ∷ []) ∷ t)) ≡ suc (length (flatten t))
 unfolding flatten
-one_field c t = refl
+one-field c t = refl
 
 pub or_swap : (x y v : Bool) → (x || (y || v)) ≡ ((y || x) || v)
 or_swap true true v = refl
@@ -240,18 +240,18 @@ flag-twice k l v = or_swap (some k) (some l) v ∙ ap (λ (b : Bool). b || v) (s
 
 -- the whole field, if x is all of it
 abbrev counted : Account → Cell → Work
-counted a x = record { account = withBlanks (some x.drops || a.flags.blanks) a; content = length x.content; held = 0 }
+counted a x = record { account = with_blanks (some x.drops || a.flags.blanks) a; content = length x.content; held = 0 }
 
 pub same_whole :
     (a : Account) {x y : Bool} {m n : ℕ} → x ≡ y → m ≡ n
-    → ◌≡◌ {A = Work} (record { account = withBlanks x a; content = m; held = 0 }) (record { account = withBlanks y a; content = n; held = 0 })
-same_whole a p q = λ i. record { account = withBlanks (p i) a; content = q i; held = 0 }
+    → ◌≡◌ {A = Work} (record { account = with_blanks x a; content = m; held = 0 }) (record { account = with_blanks y a; content = n; held = 0 })
+same_whole a p q = λ i. record { account = with_blanks (p i) a; content = q i; held = 0 }
 
 whole_fresh : (a : Account) (x : Cell) → whole (fresh a) x ≡ counted a x
 whole_fresh a x = same_whole a (ap (λ (b : Bool). b || a.flags.blanks) (drops-none x)) (content-with-none x.content)
 
 -- a field before a record
-tallied-beside : (a : Account) (g : Bytes) (x : Cell) (r : Judged) → Some r → tallied (fieldOn g (counted a x)) r ≡ tallied a (beside x r)
+tallied-beside : (a : Account) (g : Bytes) (x : Cell) (r : Judged) → Some r → tallied (field_on g (counted a x)) r ≡ tallied a (beside x r)
 tallied-beside a g x (declined n p q) o = refl
 tallied-beside a g x (taken (cs ∷ t) m l) o =
     let z = a.width in
@@ -275,19 +275,19 @@ width-set (suc z) j = (z, rw (eqb-suc-zero z))
 
 module _ (a : Account) (x : Cell) (l : ℕ) where
   -- a record of one field before others, and as the last
-  tallied-above : (g : Bytes) (r : Judged) → Some r → tallied (recordOn (some l) g (counted a x)) r ≡ tallied a (above (x.content ∷ []) x.drops l r)
+  tallied-above : (g : Bytes) (r : Judged) → Some r → tallied (record_on (some l) g (counted a x)) r ≡ tallied a (above (x.content ∷ []) x.drops l r)
   tallied-above g (declined i p q) o = refl
   tallied-above g (taken (es ∷ t) m k) o =
       let (y, e) = width-set a.width a.number in
-      same_total (omega arith) (omega (arith, one_field x.content (es ∷ t))) (omega (arith, one-text x.content (es ∷ t)))
+      same_total (omega arith) (omega (arith, one-field x.content (es ∷ t))) (omega (arith, one-text x.content (es ∷ t)))
       (flag-twice k l a.flags.lf) (flag-twice m x.drops a.flags.blanks)
       (rw (add-one a.number, e, zero-add (length es), eqb-suc-zero y)
       (ragged-line (even a.width (suc a.number)) (eqb (length es) (suc y)) (differs (suc y) t) a.flags.ragged))
 
-  tallied-last : closed (recordOn (some l) [] (counted a x)) ≡ tallied a (above (x.content ∷ []) x.drops l (taken [] 0 0))
+  tallied-last : closed (record_on (some l) [] (counted a x)) ≡ tallied a (above (x.content ∷ []) x.drops l (taken [] 0 0))
   unfolding flatten
   tallied-last =
-      same_total refl (omega (arith, one_field x.content [])) (omega (arith, one-text x.content []))
+      same_total refl (omega (arith, one-field x.content [])) (omega (arith, one-text x.content []))
       (rw (add-zero l)) (rw (add-zero x.drops))
       (rw (add-one a.number) (ap (λ (b : Bool). b || a.flags.ragged) (sym (or-false (not (even a.width (suc a.number)))))))
 
@@ -299,23 +299,23 @@ tallied-cond true n p q a k r e = e
 tallied-cond false n p q a k r e = refl
 
 -- what a trace comes to is what the model judges of it
-pub tallies : (d : Dialect) (a : Account) (r : Trace) → goes d (fresh a) r ≡ tallied a (judge d (widthFrom a.width) a.number a.start r)
+pub tallies : (d : Dialect) (a : Account) (r : Trace) → goes d (fresh a) r ≡ tallied a (judge d (width_from a.width) a.number a.start r)
 unfolding fits
 tallies d a (refused n p q) = refl
 tallies d a (last x l p) =
-    ap (λ (w : Work). recordUp d w p (closed (recordOn (some l) [] w))) (whole_fresh a x)
+    ap (λ (w : Work). record_up d w p (closed (record_on (some l) [] w))) (whole_fresh a x)
     ∙ tallied-cond (fits x.content) 9 a.start p a _ _
-    (tallied-cond (agrees d (widthFrom a.width) (suc a.number)) 10 p p a _ _ (tallied-last a x l))
+    (tallied-cond (agrees d (width_from a.width) (suc a.number)) 10 p p a _ _ (tallied-last a x l))
 tallies d a (field x p g r) =
     let j = suc a.number in
-    ap (λ (w : Work). fieldUp w (goes d (fresh (fieldOn g w)) r)) (whole_fresh a x)
+    ap (λ (w : Work). field_up w (goes d (fresh (field_on g w)) r)) (whole_fresh a x)
     ∙ tallied-cond (fits x.content) 9 a.start p a _ _
-    (tallies d (fieldOn g (counted a x)) r ∙ tallied-beside a g x (judge d (widthFrom a.width) j g r) (some-judge d (widthFrom a.width) j g r))
+    (tallies d (field_on g (counted a x)) r ∙ tallied-beside a g x (judge d (width_from a.width) j g r) (some-judge d (width_from a.width) j g r))
 tallies d a (line x l p g r) =
-    let next = recordOn (some l) g (counted a x) in
-    let w = settled (widthFrom a.width) (suc a.number) in
-    ap (λ (w : Work). recordUp d w p (goes d (fresh (recordOn (some l) g w)) r)) (whole_fresh a x)
+    let next = record_on (some l) g (counted a x) in
+    let w = settled (width_from a.width) (suc a.number) in
+    ap (λ (w : Work). record_up d w p (goes d (fresh (record_on (some l) g w)) r)) (whole_fresh a x)
     ∙ tallied-cond (fits x.content) 9 a.start p a _ _
-    (tallied-cond (agrees d (widthFrom a.width) (suc a.number)) 10 p p a _ _
+    (tallied-cond (agrees d (width_from a.width) (suc a.number)) 10 p p a _ _
     (tallies d next r
     ∙ (ap (λ (v : Width). tallied next (judge d v 0 g r)) (sym (settled-width a.width a.number)) ∙ tallied-above a x l g (judge d w 0 g r) (some-judge d w 0 g r))))

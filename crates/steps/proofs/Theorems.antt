@@ -25,8 +25,8 @@ pub refused-is : (b sum : ℕ) (f : Bytes) (n : ℕ) (p : Place) → Refused b s
 refused-is b sum f n p = (refused-model b sum, λ e. rw e at (model-holds b sum f))
 
 -- Each file has one reading, table and report, in every dialect, the file limit set aside.
-pub one-reading : (d : Dialect) (f : Bytes) (t u : Table) (r s : ℕ) → Reading d f t r → Reading d f u s → (t ≡ u) × (r ≡ s)
-one-reading d f t u r s p q = (cc (reading-verdict d p, reading-verdict d q), cc (reading-verdict d p, reading-verdict d q))
+pub one_reading : (d : Dialect) (f : Bytes) (t u : Table) (r s : ℕ) → Reading d f t r → Reading d f u s → (t ≡ u) × (r ≡ s)
+one_reading d f t u r s p q = (cc (reading-verdict d p, reading-verdict d q), cc (reading-verdict d p, reading-verdict d q))
 
 -- Each file is accepted or refused, and never both; the refusal is one, its number, where it is found and the place that it names.
 pub accepted-or-refused :
@@ -53,9 +53,9 @@ pub one-refusal :
 one-refusal {d} x y = (cc (refusal-read d x, refusal-read d y), cc (refusal-read d x, refusal-read d y), cc (refusal-read d x, refusal-read d y))
 
 -- Demand 3's last sentence: two strict files have the same plain form exactly when they hold the same table.
-pub same-plain :
+pub same_plain :
     {f g : Bytes} {t u : Table} {r s : ℕ} → Reading strict f t r → Reading strict g u s → (plain strict t ≡ plain strict u) ↔ (t ≡ u)
-same-plain = same-plain-same-table (λ f t u r s p q. (one-reading strict f t u r s p q).0)
+same_plain = same-plain-same-table (λ f t u r s p q. (one_reading strict f t u r s p q).0)
 
 -- Office and auditor: what a comma dialect accepts with report 0, strict accepts with the same table;
 pub office-auditor : {sum : ℕ} {f : Bytes} {t : Table} → Accepted 0x2C sum f t 0 → Accepted 0x2C 0 f t 0
@@ -68,5 +68,5 @@ pub auditor-office :
     → (u : Table) × (n : ℕ) × Accepted 0x2C sum f u n × ((n ≡ 0) ⊎ (n ≡ 2)) × (n ≡ 0 → u ≡ t) × NoLarger u t
 auditor-office {f} {t} sum h a =
     let (u, n, x, y, z) = strict-lenient (dialect 0x2C sum) refl a.reading in
-    let same : n ≡ 0 → u ≡ t = λ e. (one-reading strict f u t 0 _ (report-0-strict (dialect 0x2C sum) refl (rw e at x)) a.reading).0 in
+    let same : n ≡ 0 → u ≡ t = λ e. (one_reading strict f u t 0 _ (report-0-strict (dialect 0x2C sum) refl (rw e at x)) a.reading).0 in
     (u, n, record { valid = (tt, h); short = a.short; reading = x }, y, same, z)

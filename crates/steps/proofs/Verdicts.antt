@@ -9,13 +9,13 @@ use borrow.Author.Tests.{le-leb, lt-leb, leb-true, leb-false}
 use Rattle.format.specs.declared.Place.{Place}
 use Rattle.format.specs.Table.{Bytes, Table}
 use Rattle.format.specs.Dialect.{lf, blanks, ragged, bytes, bit_of, Dialect, dialect, delimits, Valid}
-use Rattle.format.specs.House.{EmptyFile, isRagged, fileLimit}
+use Rattle.format.specs.House.{EmptyFile, is_ragged, file_limit}
 use Rattle.format.specs.Count.{wides, some, uses, sum_of}
 use Rattle.format.specs.Place.{place, place_of, nowhere}
 use Rattle.format.specs.Refusal.{Refusal}
-use Rattle.format.specs.Reading.{Reading, Accepted, Refused, refusal-1, refusal-2, in-file}
-use Rattle.steps.specs.Model.{Judged, declined, taken, any, read, used, Verdict, accepts, refuses, verdict, isValid, model}
-use Rattle.steps.proofs.Limits.{read-complete, refusal-complete, Reads, reads_none, reads-some, Says, read-sound}
+use Rattle.format.specs.Reading.{Reading, Accepted, Refused, refusal_1, refusal_2, in_file}
+use Rattle.steps.specs.Model.{Judged, declined, taken, any, read, used, Verdict, accepts, refuses, verdict, is_valid, model}
+use Rattle.steps.proofs.Limits.{read-complete, refusal-complete, Reads, reads_none, reads_some, Says, read-sound}
 use Rattle.steps.proofs.Widths.{allowed-fine, fine-allowed, refusal-refuses, refuses-refusal}
 
 module _ (d : Dialect) where
@@ -27,14 +27,14 @@ module _ (d : Dialect) where
   pub verdict-taken :
       (f : Bytes) (t : Table) (m l : ℕ)
       → verdict d f (taken t m l)
-      ≡ accepts t (cond (some l) (bit_of lf) 0 + (cond (some m) (bit_of blanks) 0 + (cond (isRagged t) (bit_of ragged) 0 + cond (some (wides d f)) (bit_of bytes) 0)))
+      ≡ accepts t (cond (some l) (bit_of lf) 0 + (cond (some m) (bit_of blanks) 0 + (cond (is_ragged t) (bit_of ragged) 0 + cond (some (wides d f)) (bit_of bytes) 0)))
   unfolding verdict used
   verdict-taken f t m l = refl
 
   reads-reading : {f : Bytes} {t : Table} {m l : ℕ} → Reads d any f t m l → Reading d f t (sum_of (used d f t m l))
   unfolding used uses wides
   reads-reading reads_none = Reading.nothing EmptyFile.empty
-  reads-reading {f} {t} {m} {l} (reads-some p k h i j) =
+  reads-reading {f} {t} {m} {l} (reads_some p k h i j) =
       Reading.something {r = sum_of (used d f t m l)} p k (fine-allowed d t h) (rw (i, j))
 
   pub reading-verdict : {f : Bytes} {t : Table} {r : ℕ} → Reading d f t r → verdict d f (read d any f) ≡ accepts t r
@@ -88,56 +88,56 @@ module _ (d : Dialect) where
 
 -- over any two dialect bytes; first the test for a valid dialect
 module _ (b sum : ℕ) where
-  pub valid-sum : delimits b ≡ true → isValid b sum ≡ leb sum 15
-  unfolding isValid
+  pub valid-sum : delimits b ≡ true → is_valid b sum ≡ leb sum 15
+  unfolding is_valid
   valid-sum e = rw e
 
-  pub valid-other : delimits b ≡ false → isValid b sum ≡ false
-  unfolding isValid
+  pub valid-other : delimits b ≡ false → is_valid b sum ≡ false
+  unfolding is_valid
   valid-other e = rw e
 
-  pub valid-yes : Valid b sum → isValid b sum ≡ true
+  pub valid-yes : Valid b sum → is_valid b sum ≡ true
   valid-yes v = go (delimits b) refl v.0
     where
-      go : (x : Bool) → delimits b ≡ x → T x → isValid b sum ≡ true
+      go : (x : Bool) → delimits b ≡ x → T x → is_valid b sum ≡ true
       go true e t = valid-sum e ∙ le-leb sum 15 v.1
       go false e t = absurd t
 
-  pub yes-valid : isValid b sum ≡ true → Valid b sum
+  pub yes-valid : is_valid b sum ≡ true → Valid b sum
   yes-valid e = go (delimits b) refl
     where
       go : (x : Bool) → delimits b ≡ x → T x × (sum ≤ 15)
       go true q = (tt, leb-true sum 15 (sym (valid-sum q) ∙ e))
       go false q = absurd (true≢false (sym e ∙ valid-other q))
 
-  pub no-valid : (Valid b sum → ⊥) → isValid b sum ≡ false
-  no-valid h = go (isValid b sum) refl
+  pub no-valid : (Valid b sum → ⊥) → is_valid b sum ≡ false
+  no-valid h = go (is_valid b sum) refl
     where
-      go : (x : Bool) → isValid b sum ≡ x → x ≡ false
+      go : (x : Bool) → is_valid b sum ≡ x → x ≡ false
       go true e = absurd (h (yes-valid e))
       go false e = refl
 
   -- the model, by its tests: the dialect, the file limit, and then its verdict
-  pub model-invalid : (f : Bytes) → isValid b sum ≡ false → model b sum f ≡ refuses 1 nowhere
+  pub model-invalid : (f : Bytes) → is_valid b sum ≡ false → model b sum f ≡ refuses 1 nowhere
   unfolding model
   model-invalid f e = rw e
 
-  pub model-long : (f : Bytes) → isValid b sum ≡ true → fileLimit < length f → model b sum f ≡ refuses 2 nowhere
+  pub model-long : (f : Bytes) → is_valid b sum ≡ true → file_limit < length f → model b sum f ≡ refuses 2 nowhere
   unfolding model
-  model-long f e l = rw (e, lt-leb (length f) fileLimit l)
+  model-long f e l = rw (e, lt-leb (length f) file_limit l)
 
   pub model-within :
-      (f : Bytes) → isValid b sum ≡ true → length f ≤ fileLimit → model b sum f ≡ verdict (dialect b sum) f (read (dialect b sum) any f)
+      (f : Bytes) → is_valid b sum ≡ true → length f ≤ file_limit → model b sum f ≡ verdict (dialect b sum) f (read (dialect b sum) any f)
   unfolding model
-  model-within f e l = rw (e, le-leb (length f) fileLimit l)
+  model-within f e l = rw (e, le-leb (length f) file_limit l)
 
   pub accepted-model : {f : Bytes} {t : Table} {r : ℕ} → Accepted b sum f t r → model b sum f ≡ accepts t r
   accepted-model {f} a = model-within f (valid-yes a.valid) a.short ∙ reading-verdict (dialect b sum) a.reading
 
   pub refused-model : {f : Bytes} {n : ℕ} {p : Place} → Refused b sum f n p → model b sum f ≡ refuses n p
-  refused-model {f} (refusal-1 v) = model-invalid f (no-valid v)
-  refused-model {f} (refusal-2 v l) = model-long f (valid-yes v) l
-  refused-model {f} (in-file {n} {found} {named} v l x q) =
+  refused-model {f} (refusal_1 v) = model-invalid f (no-valid v)
+  refused-model {f} (refusal_2 v l) = model-long f (valid-yes v) l
+  refused-model {f} (in_file {n} {found} {named} v l x q) =
       model-within f (valid-yes v) l
       ∙ (ap (verdict (dialect b sum) f) (refusal-read (dialect b sum) x) ∙ (verdict-declined (dialect b sum) f n found named ∙ ap (refuses n) q))
 
@@ -146,21 +146,21 @@ module _ (b sum : ℕ) where
   Holds f (accepts t r) = Accepted b sum f t r
   Holds f (refuses n p) = Refused b sum f n p
 
-  in-file-holds : (f : Bytes) → Valid b sum → length f ≤ fileLimit → Holds f (verdict (dialect b sum) f (read (dialect b sum) any f))
+  in-file-holds : (f : Bytes) → Valid b sum → length f ≤ file_limit → Holds f (verdict (dialect b sum) f (read (dialect b sum) any f))
   in-file-holds f v l = go (verdict (dialect b sum) f (read (dialect b sum) any f)) refl
     where
       go : (a : Verdict) → verdict (dialect b sum) f (read (dialect b sum) any f) ≡ a → Holds f a
       go (accepts t r) e = record { valid = v; short = l; reading = verdict-reading (dialect b sum) f e }
-      go (refuses n p) e = let (i, j, x, q) = verdict-refusal (dialect b sum) f e in in-file v l x q
+      go (refuses n p) e = let (i, j, x, q) = verdict-refusal (dialect b sum) f e in in_file v l x q
 
   pub model-holds : (f : Bytes) → Holds f (model b sum f)
-  model-holds f = go (isValid b sum) (leb (length f) fileLimit) refl refl
+  model-holds f = go (is_valid b sum) (leb (length f) file_limit) refl refl
     where
-      go : (x y : Bool) → isValid b sum ≡ x → leb (length f) fileLimit ≡ y → Holds f (model b sum f)
+      go : (x y : Bool) → is_valid b sum ≡ x → leb (length f) file_limit ≡ y → Holds f (model b sum f)
       go true true v l =
-          let h = leb-true (length f) fileLimit l in
+          let h = leb-true (length f) file_limit l in
           rw (model-within f v h) (in-file-holds f (yes-valid v) h)
       go true false v l =
-          let h = leb-false (length f) fileLimit l in
-          rw (model-long f v h) (refusal-2 (yes-valid v) h)
-      go false y v l = rw (model-invalid f v) (refusal-1 (λ h. true≢false (sym (valid-yes h) ∙ v)))
+          let h = leb-false (length f) file_limit l in
+          rw (model-long f v h) (refusal_2 (yes-valid v) h)
+      go false y v l = rw (model-invalid f v) (refusal_1 (λ h. true≢false (sym (valid-yes h) ∙ v)))

@@ -8,66 +8,66 @@ use mathlib.Core.List.{List, [], ◌∷◌}
 use lib.Dec.{eqb, leb}
 use lib.ListN.{length}
 use borrow.Author.Tests.{ne_eqb, le-leb}
-use Rattle.format.specs.Table.{Bytes, Content, Table, Ending, without-break}
-use Rattle.format.specs.Dialect.{lf, Dialect, delimiter, classOf}
+use Rattle.format.specs.Table.{Bytes, Content, Table, Ending, without_break}
+use Rattle.format.specs.Dialect.{lf, Dialect, delimiter, class_of}
 use Rattle.format.specs.Grammar.{Field, Record, Break, File}
 use Rattle.format.specs.House.{LastBreak, EmptyFile}
 use Rattle.format.specs.Count.{alone}
 use Rattle.format.specs.Refusal.{LineEnd, FieldFault, Fields, Records}
-use Rattle.format.specs.Walk.{Holds, RecordAt, record-at, NoRecord, no_record, FaultBefore, fault-before, indexStep, Entries, Index}
+use Rattle.format.specs.Walk.{Holds, RecordAt, record-at, NoRecord, no_record, FaultBefore, fault_before, index_step, Entries, Index}
 use Rattle.format.proofs.Walk.{FoundOrNone, record-nil, break-nil, found_at, holds-either}
-use Rattle.steps.specs.Steps.{Form, start, lead, bare, quoted, shut, tail, cr, nothing, put, hold, drop, field_end, record-end, Act, refuse, go, step_of}
+use Rattle.steps.specs.Steps.{Form, start, lead, bare, quoted, shut, tail, cr, nothing, put, hold, drop, field_end, record_end, Act, refuse, go, step_of}
 use Rattle.steps.specs.Model.{Cell, Trace, refused, last, field, line, change, ending, anchor, seen, doing, closing, run}
-use Rattle.steps.specs.Numbers.{formNumber, form_of}
+use Rattle.steps.specs.Numbers.{form_number, form_of}
 use Rattle.steps.proofs.Acts.{run_end, run-byte}
 use Rattle.steps.proofs.Numbers.{six+, by_number}
-use Rattle.steps.proofs.Complete.{at-end, fields, field-then, break-stops, break-ending}
+use Rattle.steps.proofs.Complete.{at_end, fields, field-then, break-stops, break-ending}
 use Rattle.steps.proofs.Faults.{fault-refused}
-use Rattle.steps.proofs.Sound.{Means, is-wrong, is-bad, is_last, is-ended, is_field, is-line, from_start, sound, wrong-fault, bad-fault}
+use Rattle.steps.proofs.Sound.{Means, is_wrong, is_bad, is_last, is_ended, is_field, is_line, from_start, sound, wrong-fault, bad-fault}
 
 -- how the first record of a source ends: in a fault, or at a place, with what is left behind its line break
 pub data End : Type 0 where
   faulty : End
   ended : Bytes → Bytes → End
 
-abbrev pub firstEnd : Trace → End
-firstEnd (refused n a p) = faulty
-firstEnd (last x l a) = ended a []
-firstEnd (field x a g r) = firstEnd r
-firstEnd (line x l a g r) = ended a g
+abbrev pub first_end : Trace → End
+first_end (refused n a p) = faulty
+first_end (last x l a) = ended a []
+first_end (field x a g r) = first_end r
+first_end (line x l a g r) = ended a g
 
 -- the two are not one
 ended-faulty : {g h : Bytes} → ended g h ≡ faulty → ⊥
 ended-faulty e = let z : ◌≡◌ {A = ℕ} 0 1 = cc in omega arith
 
-end-change : (φ : Cell → Cell) (r : Trace) → firstEnd (change φ r) ≡ firstEnd r
+end-change : (φ : Cell → Cell) (r : Trace) → first_end (change φ r) ≡ first_end r
 end-change φ (refused n a p) = refl
 end-change φ (last x l a) = refl
 end-change φ (field x a g r) = refl
 end-change φ (line x l a g r) = refl
 
-end-ending : (l : ℕ) (a f : Bytes) (r : Trace) → firstEnd (ending l a f r) ≡ ended a f
+end-ending : (l : ℕ) (a f : Bytes) (r : Trace) → first_end (ending l a f r) ≡ ended a f
 end-ending l a [] r = refl
 end-ending l a (b ∷ f) r = refl
 
 -- one byte after the other: what an act in the form k with the anchor p makes of it, at the byte b before f; r is what f gives
-abbrev pub endBy : Act → Form → ℕ → Bytes → Bytes → (Form → Bytes → End) → End
-endBy (refuse n) k b f p r = faulty
-endBy (go j nothing) k b f p r = r j (anchor k j (b ∷ f) p)
-endBy (go j put) k b f p r = r j (anchor k j (b ∷ f) p)
-endBy (go j hold) k b f p r = r j (anchor k j (b ∷ f) p)
-endBy (go j drop) k b f p r = r j (anchor k j (b ∷ f) p)
-endBy (go j field_end) k b f p r = r start []
-endBy (go j record-end) k b f p r = ended (seen k (b ∷ f) p) f
+abbrev pub end_by : Act → Form → ℕ → Bytes → Bytes → (Form → Bytes → End) → End
+end_by (refuse n) k b f p r = faulty
+end_by (go j nothing) k b f p r = r j (anchor k j (b ∷ f) p)
+end_by (go j put) k b f p r = r j (anchor k j (b ∷ f) p)
+end_by (go j hold) k b f p r = r j (anchor k j (b ∷ f) p)
+end_by (go j drop) k b f p r = r j (anchor k j (b ∷ f) p)
+end_by (go j field_end) k b f p r = r start []
+end_by (go j record_end) k b f p r = ended (seen k (b ∷ f) p) f
 
-end-doing : (a : Act) (k : Form) (b : ℕ) (f p : Bytes) (r : Form → Bytes → Trace) → firstEnd (doing a k b f p r) ≡ endBy a k b f p (λ j q. firstEnd (r j q))
+end-doing : (a : Act) (k : Form) (b : ℕ) (f p : Bytes) (r : Form → Bytes → Trace) → first_end (doing a k b f p r) ≡ end_by a k b f p (λ j q. first_end (r j q))
 end-doing (refuse n) k b f p r = refl
 end-doing (go j nothing) k b f p r = refl
 end-doing (go j put) k b f p r = end-change _ (r j (anchor k j (b ∷ f) p))
 end-doing (go j hold) k b f p r = end-change _ (r j (anchor k j (b ∷ f) p))
 end-doing (go j drop) k b f p r = end-change _ (r j (anchor k j (b ∷ f) p))
 end-doing (go j field_end) k b f p r = refl
-end-doing (go j record-end) k b f p r = end-ending _ (seen k (b ∷ f) p) f (r start [])
+end-doing (go j record_end) k b f p r = end-ending _ (seen k (b ∷ f) p) f (r start [])
 
 -- at the file's length
 abbrev pub end_at : Form → End
@@ -79,7 +79,7 @@ end_at shut = ended [] []
 end_at tail = ended [] []
 end_at cr = faulty
 
-end-closing : (k : Form) (p : Bytes) → firstEnd (closing k p) ≡ end_at k
+end-closing : (k : Form) (p : Bytes) → first_end (closing k p) ≡ end_at k
 end-closing start p = refl
 end-closing lead p = refl
 end-closing bare p = refl
@@ -89,7 +89,7 @@ end-closing tail p = refl
 end-closing cr p = refl
 
 -- which the form's number tells
-pub end-number : (n : ℕ) → end_at (form_of n) ≡ cond (eqb n (formNumber quoted) || leb (formNumber cr) n) faulty (ended [] [])
+pub end-number : (n : ℕ) → end_at (form_of n) ≡ cond (eqb n (form_number quoted) || leb (form_number cr) n) faulty (ended [] [])
 unfolding form_of
 end-number =
     by_number (λ n. end_at (form_of n) ≡ cond (eqb n 3 || leb 6 n) faulty (ended [] [])) refl refl refl refl refl refl
@@ -97,59 +97,59 @@ end-number =
 
 -- how the first record ends, by the grammar
 pub data Ends (d : Dialect) (f : Bytes) : End → Type 0 where
-  by-fault : {n : ℕ} {g found named : Bytes} {cs : List Content} → Fields d f cs g → FieldFault d n g found named → Ends d f faulty
-  by-line : {g h : Bytes} {cs : List Content} → Record d f cs g → LineEnd d g h → Ends d f (ended g h)
+  by_fault : {n : ℕ} {g found named : Bytes} {cs : List Content} → Fields d f cs g → FieldFault d n g found named → Ends d f faulty
+  by_line : {g h : Bytes} {cs : List Content} → Record d f cs g → LineEnd d g h → Ends d f (ended g h)
 
 module _ (d : Dialect) where
   -- from a form in a field on, with an anchor
-  unfoldable pub endFrom : Bytes → Form → Bytes → End
-  endFrom f k p = firstEnd (run d f k p)
+  unfoldable pub end_from : Bytes → Form → Bytes → End
+  end_from f k p = first_end (run d f k p)
 
-  pub end-end : (k : Form) (p : Bytes) → endFrom [] k p ≡ end_at k
-  unfolding endFrom
-  end-end k p = ap firstEnd (run_end d k p) ∙ end-closing k p
+  pub end-end : (k : Form) (p : Bytes) → end_from [] k p ≡ end_at k
+  unfolding end_from
+  end-end k p = ap first_end (run_end d k p) ∙ end-closing k p
 
-  pub end-byte : (b : ℕ) (f : Bytes) (k : Form) (p : Bytes) → endFrom (b ∷ f) k p ≡ endBy (step_of (d.allows lf) k (classOf d b)) k b f p (λ j q. endFrom f j q)
-  unfolding endFrom
-  end-byte b f k p = ap firstEnd (run-byte d b f k p) ∙ end-doing (step_of (d.allows lf) k (classOf d b)) k b f p (λ j q. run d f j q)
+  pub end-byte : (b : ℕ) (f : Bytes) (k : Form) (p : Bytes) → end_from (b ∷ f) k p ≡ end_by (step_of (d.allows lf) k (class_of d b)) k b f p (λ j q. end_from f j q)
+  unfolding end_from
+  end-byte b f k p = ap first_end (run-byte d b f k p) ∙ end-doing (step_of (d.allows lf) k (class_of d b)) k b f p (λ j q. run d f j q)
 
-  beside : {b : ℕ} {f g : Bytes} {c : Content} {e : End} → Field d f c (b ∷ g) → classOf d b ≡ delimiter → Ends d g e → Ends d f e
-  beside p q (by-fault x y) = by-fault (Fields.more p q x) y
-  beside p q (by-line r l) = by-line (Record.more p q r) l
+  beside : {b : ℕ} {f g : Bytes} {c : Content} {e : End} → Field d f c (b ∷ g) → class_of d b ≡ delimiter → Ends d g e → Ends d f e
+  beside p q (by_fault x y) = by_fault (Fields.more p q x) y
+  beside p q (by_line r l) = by_line (Record.more p q r) l
 
-  means-end : {f : Bytes} {r : Trace} → Means d start [] f r → Ends d f (firstEnd r)
-  means-end (is-wrong w) = by-fault Fields.none (wrong-fault w)
-  means-end (is-bad (from_start p q) w) = by-fault Fields.none (bad-fault p w)
-  means-end (is_last (from_start p q)) = by-line (Record.one p) LineEnd.end
-  means-end (is-ended (from_start p q) k o) = by-line (Record.one p) (LineEnd.broken k)
+  means-end : {f : Bytes} {r : Trace} → Means d start [] f r → Ends d f (first_end r)
+  means-end (is_wrong w) = by_fault Fields.none (wrong-fault w)
+  means-end (is_bad (from_start p q) w) = by_fault Fields.none (bad-fault p w)
+  means-end (is_last (from_start p q)) = by_line (Record.one p) LineEnd.end
+  means-end (is_ended (from_start p q) k o) = by_line (Record.one p) (LineEnd.broken k)
   means-end (is_field (from_start p q) e m) = beside p e (means-end m)
-  means-end (is-line (from_start p q) k o m) = by-line (Record.one p) (LineEnd.broken k)
+  means-end (is_line (from_start p q) k o m) = by_line (Record.one p) (LineEnd.broken k)
 
   -- the model's end is the grammar's
-  pub end_is : (f : Bytes) → Ends d f (endFrom f start [])
-  unfolding endFrom
-  end_is f = means-end (sound d f).at-start
+  pub end_is : (f : Bytes) → Ends d f (end_from f start [])
+  unfolding end_from
+  end_is f = means-end (sound d f).at_start
 
   -- and the grammar's is the model's
-  fields-end : {f g : Bytes} {cs : List Content} {e : End} → Fields d f cs g → endFrom g start [] ≡ e → endFrom f start [] ≡ e
-  unfolding endFrom
+  fields-end : {f g : Bytes} {cs : List Content} {e : End} → Fields d f cs g → end_from g start [] ≡ e → end_from f start [] ≡ e
+  unfolding end_from
   fields-end Fields.none h = h
-  fields-end (Fields.more p q x) h = ap firstEnd (field-then d p q) ∙ fields-end x h
+  fields-end (Fields.more p q x) h = ap first_end (field-then d p q) ∙ fields-end x h
 
-  fault-end : {n : ℕ} {f g found named : Bytes} {cs : List Content} → Fields d f cs g → FieldFault d n g found named → endFrom f start [] ≡ faulty
-  unfolding endFrom
-  fault-end x y = fields-end x (ap firstEnd (fault-refused d y))
+  fault-end : {n : ℕ} {f g found named : Bytes} {cs : List Content} → Fields d f cs g → FieldFault d n g found named → end_from f start [] ≡ faulty
+  unfolding end_from
+  fault-end x y = fields-end x (ap first_end (fault-refused d y))
 
-  field-line : {f g h : Bytes} {c : Content} → Field d f c g → LineEnd d g h → endFrom f start [] ≡ ended g h
-  unfolding endFrom
-  field-line p LineEnd.end = ap firstEnd (fields d p at-end) ∙ (end-change _ (run d [] tail []) ∙ end-end tail [])
+  field-line : {f g h : Bytes} {c : Content} → Field d f c g → LineEnd d g h → end_from f start [] ≡ ended g h
+  unfolding end_from
+  field-line p LineEnd.end = ap first_end (fields d p at_end) ∙ (end-change _ (run d [] tail []) ∙ end-end tail [])
   field-line {g} {h} p (LineEnd.broken k) =
-      ap firstEnd (fields d p (break-stops d k)) ∙ (end-change _ (run d g tail []) ∙ (ap firstEnd (break-ending d k) ∙ end-ending (alone k) g h (run d h start [])))
+      ap first_end (fields d p (break-stops d k)) ∙ (end-change _ (run d g tail []) ∙ (ap first_end (break-ending d k) ∙ end-ending (alone k) g h (run d h start [])))
 
-  line-end : {f g h : Bytes} {cs : List Content} → Record d f cs g → LineEnd d g h → endFrom f start [] ≡ ended g h
-  unfolding endFrom
+  line-end : {f g h : Bytes} {cs : List Content} → Record d f cs g → LineEnd d g h → end_from f start [] ≡ ended g h
+  unfolding end_from
   line-end (Record.one p) l = field-line p l
-  line-end (Record.more p q r) l = ap firstEnd (field-then d p q) ∙ line-end r l
+  line-end (Record.more p q r) l = ap first_end (field-then d p q) ∙ line-end r l
 
 -- what a walk finds that looks for a record: a fault before its end, no such record, or where it begins and ends
 data Went : Type 0 where
@@ -170,8 +170,8 @@ onward (b ∷ f) (ended g h) r = r h
 module _ (d : Dialect) where
   -- k records are passed before the one asked for
   unfoldable walk : ℕ → Bytes → Went
-  walk zero f = found f (endFrom d f start [])
-  walk (suc k) f = onward f (endFrom d f start []) (λ h. walk k h)
+  walk zero f = found f (end_from d f start [])
+  walk (suc k) f = onward f (end_from d f start []) (λ h. walk k h)
 
   walk-nothing : (k : ℕ) → walk k [] ≡ none
   unfolding walk
@@ -210,9 +210,9 @@ module _ (d : Dialect) where
   record-walk (record-at r e x l) = records-walk 0 r (omega (arith, e)) ∙ walk_here x l
 
   before-walk : {f : Bytes} {k : ℕ} → FaultBefore d f k → walk k f ≡ fault
-  before-walk {k} (fault-before {t} r e x y) = records-walk (k - length t) r (omega arith) ∙ meets x y (k - length t)
+  before-walk {k} (fault_before {t} r e x y) = records-walk (k - length t) r (omega arith) ∙ meets x y (k - length t)
 
-  last-walk : {f : Bytes} {cs : List Content} → Record d f cs [] → LastBreak (without-break f) → (k : ℕ) → walk (suc k) f ≡ none
+  last-walk : {f : Bytes} {cs : List Content} → Record d f cs [] → LastBreak (without_break f) → (k : ℕ) → walk (suc k) f ≡ none
   last-walk {f = []} r l k = absurd l
   last-walk {f = b ∷ f} r l k = walk-on r LineEnd.end k ∙ walk-nothing k
 
@@ -268,8 +268,8 @@ module _ (d : Dialect) where
   next-record {f} {g} {k} h r e n = by (end_is d g)
     where
       by : {i : End} → Ends d g i → (h : Bytes) × (cs : List Content) × RecordAt d f k g cs h
-      by (by-fault x y) = absurd (no-fault {k = k} h (fault-before r (omega (arith, e)) x y))
-      by (by-line {g = i} {cs} x l) = (i, cs, found_at g n r e x l)
+      by (by_fault x y) = absurd (no-fault {k = k} h (fault_before r (omega (arith, e)) x y))
+      by (by_line {g = i} {cs} x l) = (i, cs, found_at g n r e x l)
 
   -- the index of a file is one
   pub one-entries : {f : Bytes} {j : ℕ} {es us : List ℕ} → Entries d f j es → Entries d f j us → es ≡ us
@@ -280,26 +280,26 @@ module _ (d : Dialect) where
       let e = (one-record x y).0 in λ i. (length f - length (e i)) ∷ one-entries u v i
 
   -- from where its records end on, it has no entry
-  pub entries-end : {f : Bytes} {t : Table} {j : ℕ} {es : List ℕ} → Holds d f t → length t ≤ j * indexStep → Entries d f j es → es ≡ []
+  pub entries-end : {f : Bytes} {t : Table} {j : ℕ} {es : List ℕ} → Holds d f t → length t ≤ j * index_step → Entries d f j es → es ≡ []
   entries-end h l (Entries.none x) = refl
   entries-end h l (Entries.entry x y) = absurd (omega (arith, record-below h x))
 
   -- it has an entry for each 64 records, or what is left of them
-  pub entries-cover : {f : Bytes} {t : Table} {j : ℕ} {es : List ℕ} → Holds d f t → Entries d f j es → length t ≤ (j + length es) * indexStep
+  pub entries-cover : {f : Bytes} {t : Table} {j : ℕ} {es : List ℕ} → Holds d f t → Entries d f j es → length t ≤ (j + length es) * index_step
   entries-cover h (Entries.none x) = omega (arith, none_above h x)
   entries-cover h (Entries.entry x u) = omega (arith, entries-cover h u)
 
-  entries-need : {f : Bytes} {t : Table} {j : ℕ} {es : List ℕ} → Holds d f t → Entries d f j es → (j + length es) * indexStep < length t + indexStep ⊎ (es ≡ [])
+  entries-need : {f : Bytes} {t : Table} {j : ℕ} {es : List ℕ} → Holds d f t → Entries d f j es → (j + length es) * index_step < length t + index_step ⊎ (es ≡ [])
   entries-need h (Entries.none x) = inr refl
   entries-need {t} {j} h (Entries.entry {es} x u) = inl (by (entries-need h u))
     where
-      by : (suc j + length es) * indexStep < length t + indexStep ⊎ (es ≡ []) → (j + suc (length es)) * indexStep < length t + indexStep
+      by : (suc j + length es) * index_step < length t + index_step ⊎ (es ≡ []) → (j + suc (length es)) * index_step < length t + index_step
       by (inl l) = omega (arith, l)
       by (inr e) = omega (arith, record-below h x, ap length e)
 
-  pub entries-count : {f : Bytes} {t : Table} {es : List ℕ} → Holds d f t → Index d f es → length es ≡ (length t + indexStep - 1) / indexStep
+  pub entries-count : {f : Bytes} {t : Table} {es : List ℕ} → Holds d f t → Index d f es → length es ≡ (length t + index_step - 1) / index_step
   entries-count {t} {es} h x = by (entries-need h x)
     where
-      by : (0 + length es) * indexStep < length t + indexStep ⊎ (es ≡ []) → length es ≡ (length t + indexStep - 1) / indexStep
+      by : (0 + length es) * index_step < length t + index_step ⊎ (es ≡ []) → length es ≡ (length t + index_step - 1) / index_step
       by (inl l) = omega (arith, l, entries-cover h x)
       by (inr e) = omega (arith, ap length e, entries-cover h x)

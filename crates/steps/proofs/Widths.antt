@@ -11,7 +11,7 @@ use Rattle.format.specs.House.{differs, EqualRows, Fits, Allowed}
 use Rattle.format.specs.Refusal.{Records, Refusal}
 use Rattle.format.proofs.Even.{even-one, even-last, last-even}
 use Rattle.steps.specs.Model.{Width, any, just, settled, agrees}
-use Rattle.steps.proofs.Limits.{Fine, Here, in-record, uneven, Refuses, here, later}
+use Rattle.steps.proofs.Limits.{Fine, Here, in_record, uneven, Refuses, here, later}
 
 -- one record more before the others: e, it has the width; f, another has not; r, that is allowed
 split-first : (r e f : Bool) → T (r || not (not e || f)) → T (r || e) × T (r || not f)
@@ -81,8 +81,8 @@ module _ (d : Dialect) where
   thread (Records.more r k s) h x = later r k h.0 h.1 (thread s h.2 x)
 
   pub refusal-refuses : {n : ℕ} {f found named : Bytes} → Refusal d n f found named → Refuses d any n f found named
-  refusal-refuses (Refusal.in_field {t} s a r u x) = thread s (allowed-fine d t a) (here (in-record r u x))
-  refusal-refuses (Refusal.refusal-10 {t} {cs} s a r e u x) =
+  refusal-refuses (Refusal.in_field {t} s a r u x) = thread s (allowed-fine d t a) (here (in_record r u x))
+  refusal-refuses (Refusal.refusal_10 {t} {cs} s a r e u x) =
       thread s (allowed-fine d t a) (here (uneven r e u (λ v. x (agrees-equal t cs a.rows v))))
 
   -- and back: the records before the one at fault
@@ -97,8 +97,8 @@ module _ (d : Dialect) where
   here-refusal :
       {n : ℕ} {f g found named : Bytes} (t : Table)
       → Records d f t g → Fine d any t → Here d (behind any t) n g found named → Refusal d n f found named
-  here-refusal t s h (in-record r u x) = Refusal.in_field s (fine-allowed d t h) r u x
-  here-refusal t s h (uneven {cs} r e u v) = Refusal.refusal-10 s (fine-allowed d t h) r e u (λ x. v (equal-agrees t cs x))
+  here-refusal t s h (in_record r u x) = Refusal.in_field s (fine-allowed d t h) r u x
+  here-refusal t s h (uneven {cs} r e u v) = Refusal.refusal_10 s (fine-allowed d t h) r e u (λ x. v (equal-agrees t cs x))
 
   pub refuses-refusal : {n : ℕ} {f found named : Bytes} → Refuses d any n f found named → Refusal d n f found named
   refuses-refusal x = let (t, g, s, h, y) = found_in x in here-refusal t s h y

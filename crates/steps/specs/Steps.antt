@@ -34,49 +34,49 @@ next cr x = row (wrong 6) (wrong 6) (wrong 6) (wrong 6) (wrong 6) end (wrong 6) 
 
 -- what a byte puts out: nothing; itself, as content behind the blanks held; a blank that is held, or dropped; the end of a field, or of field and record
 pub data Out : Type 0 where
-  nothing put hold drop field_end record-end : Out
+  nothing put hold drop field_end record_end : Out
 
 pub data Act : Type 0 where
   refuse : ℕ → Act
   go : Form → Out → Act
 
 -- inside quotes
-abbrev pub inQuotes : Form → Bool
-inQuotes start = false
-inQuotes lead = false
-inQuotes bare = false
-inQuotes quoted = true
-inQuotes shut = true
-inQuotes tail = false
-inQuotes cr = false
+abbrev pub is_in_quotes : Form → Bool
+is_in_quotes start = false
+is_in_quotes lead = false
+is_in_quotes bare = false
+is_in_quotes quoted = true
+is_in_quotes shut = true
+is_in_quotes tail = false
+is_in_quotes cr = false
 
 -- behind a CR
-abbrev pub behindCr : Form → Bool
-behindCr start = false
-behindCr lead = false
-behindCr bare = false
-behindCr quoted = false
-behindCr shut = false
-behindCr tail = false
-behindCr cr = true
+abbrev pub is_behind_cr : Form → Bool
+is_behind_cr start = false
+is_behind_cr lead = false
+is_behind_cr bare = false
+is_behind_cr quoted = false
+is_behind_cr shut = false
+is_behind_cr tail = false
+is_behind_cr cr = true
 
-abbrev pub isBlank : Class → Bool
-isBlank text = false
-isBlank blank = true
-isBlank delimiter = false
-isBlank quote = false
-isBlank CR = false
-isBlank LF = false
-isBlank forbidden = false
+abbrev pub is_blank : Class → Bool
+is_blank text = false
+is_blank blank = true
+is_blank delimiter = false
+is_blank quote = false
+is_blank CR = false
+is_blank LF = false
+is_blank forbidden = false
 
 -- an entry carried out in the form k at a byte of class x: a quote that closes a pair is content, one that opens is not; an end without CR needs "lf"
 abbrev pub carry : Bool → Form → Class → Move → Act
 carry lf k x (wrong n) = refuse n
-carry lf k x end = cond (behindCr k || lf) (go start record-end) (refuse 7)
+carry lf k x end = cond (is_behind_cr k || lf) (go start record_end) (refuse 7)
 carry lf k x (to start) = go start field_end
 carry lf k x (to lead) = go lead drop
-carry lf k x (to bare) = go bare (cond (isBlank x) hold put)
-carry lf k x (to quoted) = go quoted (cond (inQuotes k) put nothing)
+carry lf k x (to bare) = go bare (cond (is_blank x) hold put)
+carry lf k x (to quoted) = go quoted (cond (is_in_quotes k) put nothing)
 carry lf k x (to shut) = go shut nothing
 carry lf k x (to tail) = go tail drop
 carry lf k x (to cr) = go cr nothing

@@ -3,9 +3,9 @@
 // specs/Steps.antt has the table and what a byte does by it, specs/Numbers.antt the numbers that the
 // code has for forms, classes and entries.
 ghost use Rattle.std.specs.Prelude.{min, ◌≡◌};
-ghost use Rattle.format.specs.Dialect.{lf, blanks, ragged, bytes, names, dialect, is_wide, classOf};
+ghost use Rattle.format.specs.Dialect.{lf, blanks, ragged, bytes, names, dialect, is_wide, class_of};
 ghost use Rattle.steps.specs.Steps.{carry, step_of};
-ghost use Rattle.steps.specs.Numbers.{form_of, classNumber, classFrom, move_of, coded, stepTable, stepBy};
+ghost use Rattle.steps.specs.Numbers.{form_of, class_number, class_from, move_of, coded, step_table, step_by};
 
 // What a byte does: it is refused, or it leads to a form and puts something out. The end of a field
 // or a record leads to the form start.
@@ -76,7 +76,7 @@ const STEPS: [[u8; 7]; 7] = [
 // What the byte b does in a form, in the dialect of any two bytes. Any number from 6 on counts as the
 // last form.
 pub fn step(delimiter: u8, leniencies: u8, form: u8, b: u8) -> Stepped
-    ensures { result ≡ coded (step_of (names leniencies lf) (form_of form) (classOf (dialect delimiter leniencies) b)) }
+    ensures { result ≡ coded (step_of (names leniencies lf) (form_of form) (class_of (dialect delimiter leniencies) b)) }
 {
     let t = table();
     let class = class_of(delimiter, leniencies, b);
@@ -85,7 +85,7 @@ pub fn step(delimiter: u8, leniencies: u8, form: u8, b: u8) -> Stepped
 
 // The step table.
 fn table() -> [[u8; 7]; 7]
-    ensures { result ≡ stepTable }
+    ensures { result ≡ step_table }
 {
     STEPS
 }
@@ -125,7 +125,7 @@ pub fn is_wide(b: u8) -> bool
 // The number of the class of b in the dialect of any two bytes. The delimiter and the quote come first: the
 // ranges hold them too.
 pub fn class_of(delimiter: u8, leniencies: u8, b: u8) -> u8
-    ensures { result ≡ classNumber (classOf (dialect delimiter leniencies) b) }
+    ensures { result ≡ class_number (class_of (dialect delimiter leniencies) b) }
 {
     if b == delimiter {
         return DELIMITER;
@@ -153,7 +153,7 @@ pub fn class_of(delimiter: u8, leniencies: u8, b: u8) -> u8
 // One step by a table that is lent: the entry at a form and a class, carried out. Any number from 6
 // on counts as the last form, and as the last class.
 fn step_by(t: &[[u8; 7]; 7], lf: bool, form: u8, class: u8) -> Stepped
-    ensures { result ≡ stepBy t.now lf form class }
+    ensures { result ≡ step_by t.now lf form class }
 {
     let row = at_most_six(form);
     let column = at_most_six(class);
@@ -170,7 +170,7 @@ fn at_most_six(n: u8) -> usize
 
 // An entry carried out in a form at a byte of a class.
 fn carry_out(lf: bool, form: u8, class: u8, entry: u8) -> Stepped
-    ensures { result ≡ coded (carry lf (form_of form) (classFrom class) (move_of entry)) }
+    ensures { result ≡ coded (carry lf (form_of form) (class_from class) (move_of entry)) }
 {
     match entry {
         START => Stepped::EndField,

@@ -14,7 +14,7 @@ use Rattle.output.specs.Promises.{Into, roomOf}
 use Rattle.output.specs.declared.Streamed.{Streamed}
 use Rattle.output.proofs.Step.{then-nothing}
 use Rattle.taking.specs.declared.Flow.{Flow}
-use Rattle.taking.specs.Walk.{rest_of, stop_at, insideBy, Put, Grew, Took}
+use Rattle.taking.specs.Walk.{rest_of, stop_at, inside_by, Put, Grew, Took}
 use Rattle.taking.proofs.Growing.{inside-by, grew_then, grew-inside, took-end}
 
 -- all of a call
@@ -22,7 +22,7 @@ abbrev begun : Stream → Flow
 begun s = record { state = s; taken = 0; text = 0; ends = 0; rows = 0; short = 0 }
 
 filled : {A : Type 0} {buf new buf' : List A} {at : ℕ} → Put buf 0 new buf' at → (at ≡ length new) × (buf' ≡ over new buf)
-filled {new = new} w = (w.at-is ∙ omega arith, w.buf-is ∙ (begin new (omega (arith, w.room))).fills)
+filled {new = new} w = (w.at_is ∙ omega arith, w.buf_is ∙ (begin new (omega (arith, w.room))).fills)
 
 module _ {piece text : Bytes} {ends rows : List ℕ} {s : Stream} {q : Flow} {text' ends' rows' : List ℕ} where
   -- it took what it has come over, and put out what it has written
@@ -42,7 +42,7 @@ module _ {piece text : Bytes} {ends rows : List ℕ} {s : Stream} {q : Flow} {te
       → r ≡ record { state = q.state; taken = q.taken; text = q.text; ends = q.ends; rows = q.rows; short = q.short; closed = closedBy q.state; answer = answer_of q.state }
       → Into (streamed s piece (roomOf text ends rows)) text ends rows r text' ends' rows'
   grew-into g {r} e =
-      let t = filled g.text-on in
+      let t = filled g.text_on in
       let u = filled g.ends_on in
       let v = filled g.rows_on in
       subst (λ (c : Called). Into c text ends rows r text' ends' rows') (sym (whole_is g))
@@ -53,10 +53,10 @@ module _ {piece text : Bytes} {ends rows : List ℕ} {s : Stream} {q : Flow} {te
         short = refl;
         closed = refl;
         answer = refl;
-        text-count = t.0;
+        text_count = t.0;
         ends-count = u.0;
         rows-count = v.0;
-        text-is = t.1;
+        text_is = t.1;
         ends_is = u.1;
         rows_is = v.1;
       }))
@@ -64,8 +64,8 @@ module _ {piece text : Bytes} {ends rows : List ℕ} {s : Stream} {q : Flow} {te
 -- A turn of the walk: behind what has come, a part of the piece and then a byte, or the call ends there.
 module _
     {piece t₀ e₀ r₀ t₁ e₁ r₁ t₂ e₂ r₂ t₃ e₃ r₃ : List ℕ} {h₀ h p q : Flow} (l : Grew piece h₀ t₀ e₀ r₀ h t₁ e₁ r₁ (rest_of h piece t₁ e₁ r₁))
-    (f : insideBy h (length piece) (length t₁) (length e₁) (length r₁) ≡ true → Grew piece h t₁ e₁ r₁ p t₂ e₂ r₂ (rest_of p piece t₂ e₂ r₂))
-    (g : insideBy p (length piece) (length t₂) (length e₂) (length r₂) ≡ true → Took piece p t₂ e₂ r₂ q t₃ e₃ r₃)
+    (f : inside_by h (length piece) (length t₁) (length e₁) (length r₁) ≡ true → Grew piece h t₁ e₁ r₁ p t₂ e₂ r₂ (rest_of p piece t₂ e₂ r₂))
+    (g : inside_by p (length piece) (length t₂) (length e₂) (length r₂) ≡ true → Took piece p t₂ e₂ r₂ q t₃ e₃ r₃)
   where
     part : Grew piece h t₁ e₁ r₁ p t₂ e₂ r₂ (rest_of p piece t₂ e₂ r₂)
     part = f (inside-by h piece t₁ e₁ r₁ (grew-inside l))
@@ -88,6 +88,6 @@ module _
 -- at the end of the piece no byte is taken
 pub turn_last :
     {piece t₀ e₀ r₀ t₁ e₁ r₁ t₂ e₂ r₂ : List ℕ} {h₀ h q : Flow} → Grew piece h₀ t₀ e₀ r₀ h t₁ e₁ r₁ (rest_of h piece t₁ e₁ r₁)
-    → (insideBy h (length piece) (length t₁) (length e₁) (length r₁) ≡ true → Took piece h t₁ e₁ r₁ q t₂ e₂ r₂) → length piece ≤ h.taken
+    → (inside_by h (length piece) (length t₁) (length e₁) (length r₁) ≡ true → Took piece h t₁ e₁ r₁ q t₂ e₂ r₂) → length piece ≤ h.taken
     → Grew piece h₀ t₀ e₀ r₀ q t₂ e₂ r₂ (stop_at q)
 turn_last {piece} {t₁ = t₁} {e₁} {r₁} {h = h} l g k = let w = g (inside-by h piece t₁ e₁ r₁ (grew-inside l)) in grew_then l (w.ended (took-end w k))

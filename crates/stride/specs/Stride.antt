@@ -3,36 +3,36 @@ use Rattle.std.specs.Prelude.{ℕ, ◌+◌, ◌-◌, ◌≤◌, ◌<◌, ◌≡�
 use Rattle.format.specs.Table.{Bytes}
 use Rattle.format.specs.Dialect.{Dialect}
 use Rattle.steps.specs.Steps.{start}
-use Rattle.steps.specs.Numbers.{formNumber}
-use Rattle.runs.specs.Runs.{run, is_plain, isBreak}
+use Rattle.steps.specs.Numbers.{form_number}
+use Rattle.runs.specs.Runs.{run, is_plain, is_break}
 use Rattle.format.specs.Memory.{largest32}
 use Rattle.fill.specs.declared.Head.{Head}
 use Rattle.fill.specs.declared.Field.{Field}
 use Rattle.fill.specs.Put.{behind, end_of}
-use Rattle.fill.specs.Walk.{textAhead, endsAhead, rowsAhead}
+use Rattle.fill.specs.Walk.{text_ahead, ends_ahead, rows_ahead}
 
 -- room for all that is ahead, as numbers of 32 bits; and 64 bits can number the blanks held, whatever bytes are ahead
 pub record Ample (w : Bool) (d : Dialect) (f : Bytes) (p : Head) (text ends rows : List ℕ) : Type 0 where
-  pub text-room : p.text + length (textAhead d f p) ≤ length text
-  pub ends-room : p.ends + length (endsAhead w d f p) ≤ length ends
-  pub rows-room : p.rows + length (rowsAhead w d f p) ≤ length rows
-  pub text-small : p.text + length (textAhead d f p) ≤ largest32
-  pub ends-small : p.ends + length (endsAhead w d f p) ≤ largest32
+  pub text_room : p.text + length (text_ahead d f p) ≤ length text
+  pub ends_room : p.ends + length (ends_ahead w d f p) ≤ length ends
+  pub rows_room : p.rows + length (rows_ahead w d f p) ≤ length rows
+  pub text_small : p.text + length (text_ahead d f p) ≤ largest32
+  pub ends_small : p.ends + length (ends_ahead w d f p) ≤ largest32
   pub held : p.held + length f ≤ p.at + 18446744073709551615
 
 -- the field in work ends, whether or not the file ends with f: behind its last c bytes of content its end is n, and the next field begins at a place
 pub record Ends (d : Dialect) (f : Bytes) (p : Head) (c : Bytes) (next : ℕ) (row : Bool) (n : ℕ) : Type 0 where
   pub further : p.at < next
   pub inside : next ≤ length f
-  pub text-is : textAhead d f p ≡ c ++ textAhead d f (behind p next row n)
-  pub ends-are : (w : Bool) → endsAhead w d f p ≡ n ∷ endsAhead w d f (behind p next row n)
-  pub rows_are : (w : Bool) → rowsAhead w d f p ≡ cond row ((p.ends + 1) ∷ []) [] ++ rowsAhead w d f (behind p next row n)
+  pub text_is : text_ahead d f p ≡ c ++ text_ahead d f (behind p next row n)
+  pub ends_are : (w : Bool) → ends_ahead w d f p ≡ n ∷ ends_ahead w d f (behind p next row n)
+  pub rows_are : (w : Bool) → rows_ahead w d f p ≡ cond row ((p.ends + 1) ∷ []) [] ++ rows_ahead w d f (behind p next row n)
 
 -- at the start of a field that is plain text up to q, where a byte stands
 pub record Plain (d : Dialect) (f : Bytes) (p : Head) (q : ℕ) : Type 0 where
-  pub form : p.form ≡ formNumber start
+  pub form : p.form ≡ form_number start
   pub held : p.held ≡ 0
-  pub no-lf : d.delimiterByte ≡ 0x0A → ⊥
+  pub no_lf : d.delimiter_byte ≡ 0x0A → ⊥
   pub from : p.at ≤ q
   pub inside : q < length f
   pub so_far : q - p.at ≤ run (is_plain d) (drop p.at f)
@@ -40,7 +40,7 @@ pub record Plain (d : Dialect) (f : Bytes) (p : Head) (q : ℕ) : Type 0 where
 -- a field ends at a place: by a delimiter, or by a line break of which no byte is the delimiter
 pub data EndAt (f : Bytes) (b at : ℕ) : ℕ → Type 0 where
   delimits : at < length f → get_or f at 0 ≡ b → EndAt f b at 1
-  breaks : isBreak (drop at f) ≡ true → (get_or f at 0 ≡ b → ⊥) → EndAt f b at 2
+  breaks : is_break (drop at f) ≡ true → (get_or f at 0 ≡ b → ⊥) → EndAt f b at 2
 
 -- what is found at a mark: where it does not end before it begins it is the field in work, if that is plain text up to the mark
 pub record Found (d : Dialect) (f : Bytes) (p : Head) (q : ℕ) (r : Field) : Type 0 where

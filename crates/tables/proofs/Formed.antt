@@ -10,17 +10,17 @@ use lib.ListN.{length, get_or}
 use borrow.Author.Tests.{eq-eqb, eqb-true}
 use Rattle.format.specs.Table.{Bytes, last_of}
 use Rattle.format.specs.Memory.{WellFormed, start_of}
-use Rattle.format.proofs.Memory.{last-nil, last-first, well-formed, entry-within}
+use Rattle.format.proofs.Memory.{last-nil, last-first, well_formed, entry-within}
 use Rattle.tables.specs.Formed.{Decides, Cuts}
 use Rattle.tables.specs.Seek.{Sought, Strays, paired}
 use Rattle.tables.proofs.Distances.{in_order, out_of_order}
 
 module _ {A : Type 0} where
   pub affirms : A → Decides true A
-  affirms a = record { if-true = λ h. a; if-false = λ h. absurd (true≢false h) }
+  affirms a = record { if_true = λ h. a; if_false = λ h. absurd (true≢false h) }
 
   pub refutes : (A → ⊥) → Decides false A
-  refutes n = record { if-true = λ h. absurd (true≢false (sym h)); if-false = λ h. n }
+  refutes n = record { if_true = λ h. absurd (true≢false (sym h)); if_false = λ h. n }
 
 -- an entry behind the last would begin at the last
 last-start : (n : ℕ) (l : List ℕ) → get_or (n ∷ l) (length l) 0 ≡ last_of n l
@@ -36,11 +36,11 @@ never-falls n m = (λ h. omega arith, λ h. omega arith)
 module _ {text : Bytes} {ends rows : List ℕ} (most : ℕ) where
   pub not-rising :
       {k : ℕ} → ((i : ℕ) → get_or rows i 0 ≤ most) → Sought (Strays 1 most) (paired 0 rows) k → k < length rows → Decides false (WellFormed text ends rows)
-  not-rising f s h = refutes (λ w. out_of_order ◌<◌ 1 most rises 0 rows s f h w.rows-rise)
+  not-rising f s h = refutes (λ w. out_of_order ◌<◌ 1 most rises 0 rows s f h w.rows_rise)
 
   pub falling :
       {k : ℕ} → ((i : ℕ) → get_or ends i 0 ≤ most) → Sought (Strays 0 most) (paired 0 ends) k → k < length ends → Decides false (WellFormed text ends rows)
-  falling f s h = refutes (λ w. out_of_order ◌≤◌ 0 most never-falls 0 ends s f h w.ends-never-fall)
+  falling f s h = refutes (λ w. out_of_order ◌≤◌ 0 most never-falls 0 ends s f h w.ends_never_fall)
 
   pub decides :
       {j k m n : ℕ}
@@ -49,10 +49,10 @@ module _ {text : Bytes} {ends rows : List ℕ} (most : ℕ) where
       → Decides (eqb n (length text)) (WellFormed text ends rows)
   decides {j} {k} {m} {n} r h d p s i e =
       record {
-        if-true = λ q.
-            well-formed (in_order ◌<◌ 1 most rises 0 rows r h) (sym (last-start 0 rows) ∙ sym d ∙ p)
+        if_true = λ q.
+            well_formed (in_order ◌<◌ 1 most rises 0 rows r h) (sym (last-start 0 rows) ∙ sym d ∙ p)
             (in_order ◌≤◌ 0 most never-falls 0 ends s i) (sym (last-start 0 ends) ∙ sym e ∙ eqb-true n (length text) q);
-        if-false = λ q w. true≢false (sym (eq-eqb n (length text) (e ∙ last-start 0 ends ∙ w.last_end)) ∙ q);
+        if_false = λ q w. true≢false (sym (eq-eqb n (length text) (e ∙ last-start 0 ends ∙ w.last_end)) ∙ q);
       }
 
 module _ {text : Bytes} {ends rows : List ℕ} where
@@ -60,17 +60,17 @@ module _ {text : Bytes} {ends rows : List ℕ} where
   other_last e h = refutes (λ w. h (e ∙ last-start 0 rows ∙ w.last_row))
 
   pub cuts : WellFormed text ends rows → Cuts text ends
-  cuts w = record { ends-never-fall = w.ends-never-fall; last_end = w.last_end }
+  cuts w = record { ends_never_fall = w.ends_never_fall; last_end = w.last_end }
 
 -- the part of a field is in the text
 pub part-within :
     {text : Bytes} {ends : List ℕ} {k start : ℕ}
     → Cuts text ends → k < length ends → start ≡ start_of ends k → (start ≤ get_or ends k 0) × (get_or ends k 0 ≤ length text)
-part-within {text} {ends} {k} cut h e = rw (e, ← cut.last_end) (entry-within 0 ends k cut.ends-never-fall h)
+part-within {text} {ends} {k} cut h e = rw (e, ← cut.last_end) (entry-within 0 ends k cut.ends_never_fall h)
 
 -- any two answers that decide one claim coincide
 pub one-decision : {A : Type 0} (r s : Bool) → Decides r A → Decides s A → r ≡ s
 one-decision true true p q = refl
-one-decision true false p q = absurd (q.if-false refl (p.if-true refl))
-one-decision false true p q = absurd (p.if-false refl (q.if-true refl))
+one-decision true false p q = absurd (q.if_false refl (p.if_true refl))
+one-decision false true p q = absurd (p.if_false refl (q.if_true refl))
 one-decision false false p q = refl

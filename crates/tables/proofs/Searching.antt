@@ -7,31 +7,31 @@ use mathlib.Core.List.{List, []}
 use lib.ListN.{length, get_or}
 use Rattle.format.specs.Table.{Bytes, Content}
 use Rattle.format.specs.Memory.{WellFormed, parts, table_of}
-use Rattle.format.specs.Answer.{searchNumbers}
+use Rattle.format.specs.Answer.{search_numbers}
 use Rattle.format.specs.declared.Found.{Found}
 use Rattle.format.proofs.Memory.{table-length, field_at, field-part, record-width}
 use Rattle.format.proofs.Numbers.{one-search-numbers}
-use Rattle.tables.specs.Search.{answered, headerOf, Repeats, Named, NoneBelow, InHeader, twice, at, nowhere, Searched, malformed, no-records, in-header, Least}
+use Rattle.tables.specs.Search.{answered, header_of, Repeats, Named, NoneBelow, InHeader, twice, at, nowhere, Searched, malformed, no_records, in_header, Least}
 
 module _ {text : Bytes} {ends rows : List ℕ} (w : WellFormed text ends rows) where
   pub lacks-records : {name : Bytes} → length rows ≡ 0 → Searched text ends rows name (answered 17 0)
-  lacks-records e = no-records w (table-length text ends rows ∙ e)
+  lacks-records e = no_records w (table-length text ends rows ∙ e)
 
   module _ (some : 0 < length rows) where
-    header-width : length (headerOf (table_of text ends rows)) ≡ get_or rows 0 0
+    header-width : length (header_of (table_of text ends rows)) ≡ get_or rows 0 0
     header-width = omega (arith, record-width w 0 some)
 
-    header-field : (k : ℕ) → k < get_or rows 0 0 → get_or (headerOf (table_of text ends rows)) k [] ≡ get_or (parts 0 text ends) k []
+    header-field : (k : ℕ) → k < get_or rows 0 0 → get_or (header_of (table_of text ends rows)) k [] ≡ get_or (parts 0 text ends) k []
     header-field k l = rw zero-add at (field_at w 0 k some (omega arith)) ∙ sym (field-part text ends k)
 
-    repeats : (j : ℕ) → j < get_or rows 0 0 → Repeats (parts 0 text ends) j → Repeats (headerOf (table_of text ends rows)) j
+    repeats : (j : ℕ) → j < get_or rows 0 0 → Repeats (parts 0 text ends) j → Repeats (header_of (table_of text ends rows)) j
     repeats j l (i, before, e) = (i, before, header-field i (omega arith) ∙ e ∙ sym (header-field j l))
 
-    repeats-back : (j : ℕ) → j < get_or rows 0 0 → Repeats (headerOf (table_of text ends rows)) j → Repeats (parts 0 text ends) j
+    repeats-back : (j : ℕ) → j < get_or rows 0 0 → Repeats (header_of (table_of text ends rows)) j → Repeats (parts 0 text ends) j
     repeats-back j l (i, before, e) = (i, before, sym (header-field i (omega arith)) ∙ e ∙ header-field j l)
 
-    gives : {name : Bytes} {found : List ℕ} → InHeader (headerOf (table_of text ends rows)) name found → Searched text ends rows name found
-    gives f = in-header w (rw (table-length text ends rows) some) f
+    gives : {name : Bytes} {found : List ℕ} → InHeader (header_of (table_of text ends rows)) name found → Searched text ends rows name found
+    gives f = in_header w (rw (table-length text ends rows) some) f
 
     pub repeated :
         {name : Bytes} {j : ℕ}
@@ -40,7 +40,7 @@ module _ {text : Bytes} {ends rows : List ℕ} (w : WellFormed text ends rows) w
         gives (twice (rw header-width l) (repeats j l (least.here l)) (λ i m r. least.none_before i m (repeats-back i (omega arith) r)))
 
     module _ {j : ℕ} (least : Least (Repeats (parts 0 text ends)) (get_or rows 0 0) j) (past : get_or rows 0 0 ≤ j) where
-      none-repeats : NoneBelow (Repeats (headerOf (table_of text ends rows))) (length (headerOf (table_of text ends rows)))
+      none-repeats : NoneBelow (Repeats (header_of (table_of text ends rows))) (length (header_of (table_of text ends rows)))
       none-repeats i l r = least.none_before i (omega (arith, header-width)) (repeats-back i (omega (arith, header-width)) r)
 
       pub named :
@@ -86,17 +86,17 @@ pub one_found :
     {text : Bytes} {ends rows : List ℕ} {name : Bytes} {m n : List ℕ}
     → Searched text ends rows name m → Searched text ends rows name n → m ≡ n
 one_found (malformed h) (malformed i) = refl
-one_found (malformed h) (no-records w i) = absurd (h w)
-one_found (malformed h) (in-header w i f) = absurd (h w)
-one_found (no-records v h) (malformed i) = absurd (i v)
-one_found (no-records v h) (no-records w i) = refl
-one_found (no-records v h) (in-header w i f) = absurd (omega arith)
-one_found (in-header v h e) (malformed i) = absurd (i v)
-one_found (in-header v h e) (no-records w i) = absurd (omega arith)
-one_found (in-header v h e) (in-header w i f) = one-in-header e f
+one_found (malformed h) (no_records w i) = absurd (h w)
+one_found (malformed h) (in_header w i f) = absurd (h w)
+one_found (no_records v h) (malformed i) = absurd (i v)
+one_found (no_records v h) (no_records w i) = refl
+one_found (no_records v h) (in_header w i f) = absurd (omega arith)
+one_found (in_header v h e) (malformed i) = absurd (i v)
+one_found (in_header v h e) (no_records w i) = absurd (omega arith)
+one_found (in_header v h e) (in_header w i f) = one-in-header e f
 
 -- any two outcomes coincide
 pub one-search :
     {text : Bytes} {ends rows : List ℕ} {name : Bytes} (x y : Found)
-    → Searched text ends rows name (searchNumbers x) → Searched text ends rows name (searchNumbers y) → x ≡ y
+    → Searched text ends rows name (search_numbers x) → Searched text ends rows name (search_numbers y) → x ≡ y
 one-search x y p q = one-search-numbers x y (one_found p q)

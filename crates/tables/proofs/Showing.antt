@@ -7,24 +7,24 @@ use lib.ListN.{length, get_or, take, drop}
 use Rattle.format.specs.declared.Part.{Part}
 use Rattle.format.specs.Table.{Bytes}
 use Rattle.format.specs.Memory.{WellFormed, table_of, start_of, parts, part_of}
-use Rattle.format.specs.Answer.{partNumbers}
+use Rattle.format.specs.Answer.{part_numbers}
 use Rattle.format.proofs.Memory.{table-length, records-most, row_within, end-within, field_at, record-width, field-part, part-from, part_length}
 use Rattle.format.proofs.Numbers.{one-part-numbers}
-use Rattle.tables.specs.Shown.{Has, Lacks, malformed, no_record, no-column, Shown, Numbered, numbered, Located, lies}
+use Rattle.tables.specs.Shown.{Has, Lacks, malformed, no_record, no_column, Shown, Numbered, numbered, Located, lies}
 
 module _ {text : Bytes} {ends rows : List ℕ} {r c : ℕ} where
   -- a place is there or is not
   never_both : Has text ends rows r c → Lacks text ends rows r c → ⊥
   never_both h (malformed n) = n h.formed
   never_both h (no_record w l) = omega (arith, h.record-in)
-  never_both h (no-column w l m) = omega (arith, h.column-in)
+  never_both h (no_column w l m) = omega (arith, h.column-in)
 
   module _ (w : WellFormed text ends rows) where
     pub lacks-record : length rows ≤ r → Lacks text ends rows r c
     lacks-record h = no_record w (rw (table-length text ends rows) h)
 
     pub lacks-column : r < length rows → get_or rows r 0 - start_of rows r ≤ c → Lacks text ends rows r c
-    lacks-column h k = no-column w (rw (table-length text ends rows) h) (omega (arith, record-width w r h))
+    lacks-column h k = no_column w (rw (table-length text ends rows) h) (omega (arith, record-width w r h))
 
     pub is_number : {first : ℕ} → first ≡ start_of rows r → r < length rows → c < get_or rows r 0 - first → Numbered text ends rows r c (first + c)
     is_number e h k =
@@ -101,7 +101,7 @@ module _ {text : Bytes} {ends rows : List ℕ} {r c : ℕ} where
   one_place (Located.absent l) (lies h) = absurd (never_both h l)
   one_place (Located.absent l) (Located.absent m) = refl
 
-  pub one-located : (x y : Part) → Located text ends rows r c (partNumbers x) → Located text ends rows r c (partNumbers y) → x ≡ y
+  pub one-located : (x y : Part) → Located text ends rows r c (part_numbers x) → Located text ends rows r c (part_numbers y) → x ≡ y
   one-located x y p q = one-part-numbers x y (one_place p q)
 
 -- where no row is above b, no record and no column has a number of b or more: greater numbers may be taken for b
@@ -115,7 +115,7 @@ module _ {text : Bytes} {ends rows : List ℕ} (b : ℕ) (most : (i : ℕ) → g
   lacks-clamped : {r c : ℕ} → Lacks text ends rows (min r b) (min c b) → Lacks text ends rows r c
   lacks-clamped (malformed n) = malformed n
   lacks-clamped (no_record w l) = no_record w (omega (arith, l))
-  lacks-clamped {r} {c} (no-column w l m) = subst (λ (x : ℕ). Lacks text ends rows x c) (same-record r w l) (no-column w l (omega (arith, m)))
+  lacks-clamped {r} {c} (no_column w l m) = subst (λ (x : ℕ). Lacks text ends rows x c) (same-record r w l) (no_column w l (omega (arith, m)))
 
   pub located-clamped : {r c : ℕ} {l : List ℕ} → Located text ends rows (min r b) (min c b) l → Located text ends rows r c l
   located-clamped {r} {c} (lies h) =

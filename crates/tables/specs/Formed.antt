@@ -5,10 +5,10 @@ use Rattle.format.specs.Memory.{Ordered}
 
 -- an answer that decides a claim, both ways
 pub record Decides (r : Bool) (A : Type 0) : Type 0 where
-  pub if-true : r ≡ true → A
-  pub if-false : r ≡ false → A → ⊥
+  pub if_true : r ≡ true → A
+  pub if_false : r ≡ false → A → ⊥
 
 -- ends that cut the text into fields: they never fall, and the last is its length
 pub record Cuts (text : Bytes) (ends : List ℕ) : Type 0 where
-  pub ends-never-fall : Ordered ◌≤◌ 0 ends
+  pub ends_never_fall : Ordered ◌≤◌ 0 ends
   pub last_end : last_of 0 ends ≡ length text

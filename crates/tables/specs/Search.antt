@@ -7,8 +7,8 @@ abbrev pub answered : ℕ → ℕ → List ℕ
 answered refusal column = refusal ∷ 0 ∷ 0 ∷ column ∷ []
 
 -- the header is the first record
-abbrev pub headerOf : Table → List Content
-headerOf t = get_or t 0 []
+abbrev pub header_of : Table → List Content
+header_of t = get_or t 0 []
 
 -- column j has the name of an earlier column; column k has this name
 abbrev pub Repeats : List Content → ℕ → Type 0
@@ -30,9 +30,9 @@ pub data InHeader (h : List Content) (name : Bytes) : List ℕ → Type 0 where
 -- 14 for a malformed table, then 17 with no records, then what the header gives
 pub data Searched (text : Bytes) (ends rows : List ℕ) (name : Bytes) : List ℕ → Type 0 where
   malformed : (WellFormed text ends rows → ⊥) → Searched text ends rows name (answered 14 0)
-  no-records : WellFormed text ends rows → length (table_of text ends rows) ≡ 0 → Searched text ends rows name (answered 17 0)
-  in-header : {found : List ℕ}
-      → WellFormed text ends rows → 0 < length (table_of text ends rows) → InHeader (headerOf (table_of text ends rows)) name found
+  no_records : WellFormed text ends rows → length (table_of text ends rows) ≡ 0 → Searched text ends rows name (answered 17 0)
+  in_header : {found : List ℕ}
+      → WellFormed text ends rows → 0 < length (table_of text ends rows) → InHeader (header_of (table_of text ends rows)) name found
       → Searched text ends rows name found
 
 -- what a walk over n places promises: the lowest with the property P; or at least n, where none has it

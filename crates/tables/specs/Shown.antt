@@ -13,7 +13,7 @@ module _ (text : Bytes) (ends rows : List ℕ) (r c : ℕ) where
   pub data Lacks : Type 0 where
     malformed : (WellFormed text ends rows → ⊥) → Lacks
     no_record : WellFormed text ends rows → length (table_of text ends rows) ≤ r → Lacks
-    no-column : WellFormed text ends rows → r < length (table_of text ends rows) → length (get_or (table_of text ends rows) r []) ≤ c → Lacks
+    no_column : WellFormed text ends rows → r < length (table_of text ends rows) → length (get_or (table_of text ends rows) r []) ≤ c → Lacks
 
   -- the content of that place, or the stand-in
   pub data Shown (stand-in : Bytes) : Bytes → Type 0 where

@@ -1,7 +1,7 @@
 // Tables in memory: text, ends and rows, as the reader writes them.
 ghost use Rattle.std.specs.Prelude.{◌≡◌, [], ◌≤◌, ◌<◌, length, get_or};
 ghost use Rattle.format.specs.Memory.{WellFormed, parts, start_of};
-ghost use Rattle.format.specs.Answer.{searchNumbers, partNumbers};
+ghost use Rattle.format.specs.Answer.{search_numbers, part_numbers};
 ghost use Rattle.tables.specs.Formed.{Decides, Cuts};
 ghost use Rattle.tables.specs.Seek.{Sought, Strays, paired};
 ghost use Rattle.tables.specs.Shown.{Shown, Located, Numbered};
@@ -76,7 +76,7 @@ pub fn locate(
     record: RecordNumber,
     column: FieldNumber,
 ) -> Part
-    ensures { Located text.now ends.now rows.now «record».0 column.0 (partNumbers result) }
+    ensures { Located text.now ends.now rows.now «record».0 column.0 (part_numbers result) }
 {
     let k = field_number(text, ends, rows, record, column);
     if ends.len() <= k {
@@ -117,7 +117,7 @@ fn field_number(
 // The column, from 0, whose whole name in the header is the name, byte for byte; or why there is none to
 // give. The header is the first record. Two equal names in it are refused whatever the name.
 pub fn find_column(text: &[u8], ends: &[u32], rows: &[u32], name: &[u8]) -> Found
-    ensures { Searched text.now ends.now rows.now name.now (searchNumbers result) }
+    ensures { Searched text.now ends.now rows.now name.now (search_numbers result) }
 {
     let formed = is_well_formed(text, ends, rows);
     if !formed {

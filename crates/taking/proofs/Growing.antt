@@ -20,23 +20,23 @@ use Rattle.output.proofs.Calls.{then-then}
 use Rattle.output.specs.declared.Due.{Due}
 use Rattle.output.proofs.Bytewise.{due-is, short-is, short-fits, short-not, fits-parts, streamed-none, streamed-over, streamed-shown, streamed-taken, streamed-stuck}
 use Rattle.taking.specs.declared.Flow.{Flow}
-use Rattle.taking.specs.Walk.{room_at, rest_of, stop_at, adding, Inside, insideBy, Put, Grew, Took, one}
+use Rattle.taking.specs.Walk.{room_at, rest_of, stop_at, adding, Inside, inside_by, Put, Grew, Took, one}
 
 -- a buffer
 module _ {A : Type 0} where
   pub put-none : {buf : List A} {at : ℕ} → at ≤ length buf → Put buf at [] buf at
-  put-none l = record { room = omega arith; buf-is = refl; at-is = omega arith }
+  put-none l = record { room = omega arith; buf_is = refl; at_is = omega arith }
 
   pub put-size : {buf new buf' : List A} {at at' : ℕ} → Put buf at new buf' at' → length buf' ≡ length buf
-  put-size {buf} {new} {at = at} w = ap length w.buf-is ∙ length-sets buf at new
+  put-size {buf} {new} {at = at} w = ap length w.buf_is ∙ length-sets buf at new
 
   put_then : {buf new buf' new' buf'' : List A} {at at' at'' : ℕ} → Put buf at new buf' at' → Put buf' at' new' buf'' at'' → Put buf at (new ++ new') buf'' at''
   put_then {buf} {new} {new' = new'} {at = at} v w =
       let l = length-append new new' in
       record {
-        room = omega (arith, w.room, v.at-is, put-size v);
-        buf-is = w.buf-is ∙ rw (v.buf-is, v.at-is) (sym (sets-append new new' buf at));
-        at-is = omega (arith, v.at-is, w.at-is);
+        room = omega (arith, w.room, v.at_is, put-size v);
+        buf_is = w.buf_is ∙ rw (v.buf_is, v.at_is) (sym (sets-append new new' buf at));
+        at_is = omega (arith, v.at_is, w.at_is);
       }
 
 -- the rest of a call
@@ -58,8 +58,8 @@ grew_none {piece} {text} {ends} {rows} {p} w =
       on = omega arith;
       inside = w.taken_in;
       model = adds_none (rest_of p piece text ends rows) ∙ ap (λ (k : ℕ). adding k nothing (rest_of p piece text ends rows)) (sym z);
-      text-on = put-none w.text_in;
-      ends_on = put-none w.ends-in;
+      text_on = put-none w.text_in;
+      ends_on = put-none w.ends_in;
       rows_on = put-none w.rows_in;
     }
 
@@ -79,7 +79,7 @@ grew_then {p = p} {q} {s} {x} g h =
       model = g.model
           ∙ (ap (adding (q.taken - p.taken) g.new) h.model
           ∙ (adds-adds (q.taken - p.taken) (s.taken - q.taken) g.new h.new x ∙ ap (λ (k : ℕ). adding k (then g.new h.new) x) z));
-      text-on = put_then g.text-on h.text-on;
+      text_on = put_then g.text_on h.text_on;
       ends_on = put_then g.ends_on h.ends_on;
       rows_on = put_then g.rows_on h.rows_on;
     }
@@ -91,15 +91,15 @@ pub grew-inside :
 grew-inside g =
     record {
       taken_in = g.inside;
-      text_in = omega (arith, g.text-on.room, g.text-on.at-is, put-size g.text-on);
-      ends-in = omega (arith, g.ends_on.room, g.ends_on.at-is, put-size g.ends_on);
-      rows_in = omega (arith, g.rows_on.room, g.rows_on.at-is, put-size g.rows_on);
+      text_in = omega (arith, g.text_on.room, g.text_on.at_is, put-size g.text_on);
+      ends_in = omega (arith, g.ends_on.room, g.ends_on.at_is, put-size g.ends_on);
+      rows_in = omega (arith, g.rows_on.room, g.rows_on.at_is, put-size g.rows_on);
     }
 
 pub grew-sizes :
     {piece : Bytes} {text ends rows text' ends' rows' : List ℕ} {p q : Flow} {x : Called} → Grew piece p text ends rows q text' ends' rows' x
     → (length text' ≡ length text) × (length ends' ≡ length ends) × (length rows' ≡ length rows)
-grew-sizes g = (put-size g.text-on, put-size g.ends_on, put-size g.rows_on)
+grew-sizes g = (put-size g.text_on, put-size g.ends_on, put-size g.rows_on)
 
 -- what the code has computed of a byte's output
 when-length : (x : Bool) (n : ℕ) → length (when x n) ≡ one x
@@ -148,8 +148,8 @@ module _ {piece text : Bytes} {ends rows : List ℕ} {p : Flow} (w : Inside p pi
         on = omega arith;
         inside = w.taken_in;
         model = e ∙ (adds_none (idle p.state) ∙ ap (λ (k : ℕ). adding k nothing (idle p.state)) (sym z));
-        text-on = put-none w.text_in;
-        ends_on = put-none w.ends-in;
+        text_on = put-none w.text_in;
+        ends_on = put-none w.ends_in;
         rows_on = put-none w.rows_in;
       }
 
@@ -184,14 +184,14 @@ module _ {piece text : Bytes} {ends rows : List ℕ} {p : Flow} (w : Inside p pi
     first : drop p.taken piece ≡ b ∷ drop (p.taken + 1) piece
     first = rw (add-one p.taken) (drop-cons piece p.taken 0 l)
 
-    rest-is : rest_of p piece text ends rows ≡ streamed p.state (b ∷ drop (p.taken + 1) piece) (room_at p text ends rows)
-    rest-is = ap (λ (f : Bytes). streamed p.state f (room_at p text ends rows)) first
+    rest_is : rest_of p piece text ends rows ≡ streamed p.state (b ∷ drop (p.taken + 1) piece) (room_at p text ends rows)
+    rest_is = ap (λ (f : Bytes). streamed p.state f (room_at p text ends rows)) first
 
     abbrev next : ℕ → ℕ → ℕ → Flow
     next n m k = record { state = onward (fed c b); taken = p.taken + 1; text = n; ends = m; rows = k; short = 0 }
 
-    abbrev behind-byte : Check → Flow
-    behind-byte d = record { state = onward d; taken = p.taken + 1; text = p.text; ends = p.ends; rows = p.rows; short = 0 }
+    abbrev behind_byte : Check → Flow
+    behind_byte d = record { state = onward d; taken = p.taken + 1; text = p.text; ends = p.ends; rows = p.rows; short = 0 }
 
     one_on : p.taken + 1 - p.taken ≡ 1
     one_on = omega arith
@@ -200,7 +200,7 @@ module _ {piece text : Bytes} {ends rows : List ℕ} {p : Flow} (w : Inside p pi
     pub shown-took : {d : Check} → d ≡ fed c b → shown d ≡ true → {q : Flow} → q ≡ record { state = onward d; taken = p.taken + 1; text = p.text; ends = p.ends; rows = p.rows; short = 0 } → Took piece p text ends rows q text ends rows
     shown-took x j u =
         let i : shown (fed c b) ≡ true = rw x at j in
-        let e = u ∙ ap behind-byte x in
+        let e = u ∙ ap behind_byte x in
         let v : is_over (onward (fed c b)) ≡ true = rw i in
         let q₀ = next p.text p.ends p.rows in
         let y : rest_of q₀ piece text ends rows ≡ idle (onward (fed c b)) = streamed-over (onward (fed c b)) (room_at q₀ text ends rows) (drop (p.taken + 1) piece) v in
@@ -212,11 +212,11 @@ module _ {piece text : Bytes} {ends rows : List ℕ} {p : Flow} (w : Inside p pi
             new = nothing;
             on = omega arith;
             inside = omega arith;
-            model = rest-is
+            model = rest_is
                 ∙ (streamed-shown p.state (room_at p text ends rows) b (drop (p.taken + 1) piece) h i
                 ∙ λ j. adding (sym one_on j) nothing (sym y j));
-            text-on = put-none w.text_in;
-            ends_on = put-none w.ends-in;
+            text_on = put-none w.text_in;
+            ends_on = put-none w.ends_in;
             rows_on = put-none w.rows_in;
           };
         })
@@ -231,9 +231,9 @@ module _ {piece text : Bytes} {ends rows : List ℕ} {p : Flow} (w : Inside p pi
           → Took piece p text ends rows q text' ends' rows'
       due-took j {text' = text'} {ends'} {rows'} e k₁ k₂ k₃ t₁ t₂ t₃ =
           let q₀ = next (p.text + length o.text) (p.ends + length o.ends) (p.rows + length o.rows) in
-          let w₁ : Put text p.text o.text text' (p.text + length o.text) = record { room = k₁; buf-is = t₁; at-is = refl } in
-          let w₂ : Put ends p.ends o.ends ends' (p.ends + length o.ends) = record { room = k₂; buf-is = t₂; at-is = refl } in
-          let w₃ : Put rows p.rows o.rows rows' (p.rows + length o.rows) = record { room = k₃; buf-is = t₃; at-is = refl } in
+          let w₁ : Put text p.text o.text text' (p.text + length o.text) = record { room = k₁; buf_is = t₁; at_is = refl } in
+          let w₂ : Put ends p.ends o.ends ends' (p.ends + length o.ends) = record { room = k₂; buf_is = t₂; at_is = refl } in
+          let w₃ : Put rows p.rows o.rows rows' (p.rows + length o.rows) = record { room = k₃; buf_is = t₃; at_is = refl } in
           let x : length text - p.text - length o.text ≡ length text' - (p.text + length o.text) = omega (arith, put-size w₁) in
           let y : length ends - p.ends - length o.ends ≡ length ends' - (p.ends + length o.ends) = omega (arith, put-size w₂) in
           let z : length rows - p.rows - length o.rows ≡ length rows' - (p.rows + length o.rows) = omega (arith, put-size w₃) in
@@ -247,11 +247,11 @@ module _ {piece text : Bytes} {ends rows : List ℕ} {p : Flow} (w : Inside p pi
               new = o;
               on = omega arith;
               inside = omega arith;
-              model = rest-is
+              model = rest_is
                   ∙ (streamed-taken p.state (room_at p text ends rows) b (drop (p.taken + 1) piece) h i j
                   ∙ (ap (λ (m : Room). taking o (streamed (onward (fed c b)) (drop (p.taken + 1) piece) m)) r
                   ∙ λ n. record { taken = a n; out = then o (rest_of q₀ piece text' ends' rows').out; short = (rest_of q₀ piece text' ends' rows').short; state = (rest_of q₀ piece text' ends' rows').state }));
-              text-on = w₁;
+              text_on = w₁;
               ends_on = w₂;
               rows_on = w₃;
             };
@@ -279,7 +279,7 @@ module _ {piece text : Bytes} {ends rows : List ℕ} {p : Flow} (w : Inside p pi
               new = record { text = replicate blanks 0x20; ends = []; rows = [] };
               on = omega arith;
               inside = w.taken_in;
-              model = rest-is
+              model = rest_is
                   ∙ (streamed-stuck p.state (room_at p text ends rows) b (drop (p.taken + 1) piece) h i j
                   ∙ λ m. record {
                     taken = y m;
@@ -287,24 +287,24 @@ module _ {piece text : Bytes} {ends rows : List ℕ} {p : Flow} (w : Inside p pi
                     short = short_of o (room_at p text ends rows);
                     state = record { check = c; early = p.state.early + blanks; closed = p.state.closed };
                   });
-              text-on = record { room = omega arith; buf-is = t; at-is = omega arith };
-              ends_on = put-none w.ends-in;
+              text_on = record { room = omega arith; buf_is = t; at_is = omega arith };
+              ends_on = put-none w.ends_in;
               rows_on = put-none w.rows_in;
             };
           })
 
       -- by what the code has computed of it, and of the buffer that is short
-      abbrev dueBy : Check → Due
-      dueBy e = record { blanks = blanksDue p.state.early c e; byte = putsText c e && byteLeft c; end = endsField e; row = endsRecord e }
+      abbrev due_by : Check → Due
+      due_by e = record { blanks = blanksDue p.state.early c e; byte = putsText c e && byteLeft c; end = endsField e; row = endsRecord e }
 
-      abbrev shortBy : Due → ℕ
-      shortBy d =
+      abbrev short_by : Due → ℕ
+      short_by d =
           cond (leb (d.blanks + one d.byte) (length text - p.text))
           (cond (leb (one d.end) (length ends - p.ends)) (cond (leb (one d.row) (length rows - p.rows)) 0 13) 12) 11
 
-      module _ {e : Check} (x : e ≡ fed c b) {d : Due} (y : d ≡ dueBy e) {n : ℕ} (z : n ≡ shortBy d) where
-        due-by : d ≡ dueBy (fed c b)
-        due-by = y ∙ ap dueBy x
+      module _ {e : Check} (x : e ≡ fed c b) {d : Due} (y : d ≡ due_by e) {n : ℕ} (z : n ≡ short_by d) where
+        due-by : d ≡ due_by (fed c b)
+        due-by = y ∙ ap due_by x
 
         short-by : n ≡ short_of o (room_at p text ends rows)
         short-by = z ∙ short-is-of p.state.early c b (fed c b) due-by (room_at p text ends rows)
@@ -322,7 +322,7 @@ module _ {piece text : Bytes} {ends rows : List ℕ} {p : Flow} (w : Inside p pi
             n ≡ 0 → (p.text + (d.blanks + one d.byte) ≤ length text) × ((p.ends + one d.end ≤ length ends) × (p.rows + one d.row ≤ length rows))
         put-room k =
             let f = fits-parts o (room_at p text ends rows) (short-fits o (room_at p text ends rows) (sym short-by ∙ k)) in
-            (omega (arith, f.0, text-many, w.text_in), (omega (arith, f.1, ends-many, w.ends-in), omega (arith, f.2, rows-many, w.rows_in)))
+            (omega (arith, f.0, text-many, w.text_in), (omega (arith, f.1, ends-many, w.ends_in), omega (arith, f.2, rows-many, w.rows_in)))
 
         pub put-took :
             n ≡ 0 → {q : Flow} {text' ends' rows' : List ℕ}
@@ -349,7 +349,7 @@ module _ {piece text : Bytes} {ends rows : List ℕ} {p : Flow} (w : Inside p pi
             (t ∙ λ j. sets text p.text (replicate (min (a j) (length text - p.text)) 0x20))
 
 -- inside by the lengths
-pub inside-parts : (p : Flow) (a b c d : ℕ) → insideBy p a b c d ≡ true → (p.taken ≤ a) × (p.text ≤ b) × (p.ends ≤ c) × (p.rows ≤ d)
+pub inside-parts : (p : Flow) (a b c d : ℕ) → inside_by p a b c d ≡ true → (p.taken ≤ a) × (p.text ≤ b) × (p.ends ≤ c) × (p.rows ≤ d)
 inside-parts p a b c d h =
     let x = and_both ((leb p.taken a && leb p.text b) && leb p.ends c) (leb p.rows d) h in
     let y = and_both (leb p.taken a && leb p.text b) (leb p.ends c) x.0 in
@@ -357,14 +357,14 @@ inside-parts p a b c d h =
     (leb-true p.taken a z.0, leb-true p.text b z.1, leb-true p.ends c y.1, leb-true p.rows d x.1)
 
 module _ (p : Flow) (piece text : Bytes) (ends rows : List ℕ) where
-  pub by-inside : insideBy p (length piece) (length text) (length ends) (length rows) ≡ true → Inside p piece text ends rows
+  pub by-inside : inside_by p (length piece) (length text) (length ends) (length rows) ≡ true → Inside p piece text ends rows
   by-inside h =
       let x = inside-parts p (length piece) (length text) (length ends) (length rows) h in
-      record { taken_in = x.0; text_in = x.1; ends-in = x.2; rows_in = x.3 }
+      record { taken_in = x.0; text_in = x.1; ends_in = x.2; rows_in = x.3 }
 
-  pub inside-by : Inside p piece text ends rows → insideBy p (length piece) (length text) (length ends) (length rows) ≡ true
+  pub inside-by : Inside p piece text ends rows → inside_by p (length piece) (length text) (length ends) (length rows) ≡ true
   inside-by w =
-      rw (le-leb p.taken (length piece) w.taken_in, le-leb p.text (length text) w.text_in, le-leb p.ends (length ends) w.ends-in, le-leb p.rows (length rows) w.rows_in)
+      rw (le-leb p.taken (length piece) w.taken_in, le-leb p.text (length text) w.text_in, le-leb p.ends (length ends) w.ends_in, le-leb p.rows (length rows) w.rows_in)
 
 -- by one byte, or none, the buffers keep their lengths
 pub took-sizes :
@@ -385,10 +385,10 @@ pub one-grew :
     → Grew piece p text ends rows q₂ t₂ e₂ r₂ x₂ → q₁.text ≡ q₂.text → q₁.ends ≡ q₂.ends → q₁.rows ≡ q₂.rows → (t₁ ≡ t₂) × (e₁ ≡ e₂) × (r₁ ≡ r₂)
 one-grew {text = text} {ends} {rows} {p = p} {x₁ = x₁} {x₂} g h a b c =
     let m = sym g.model ∙ h.model in
-    let t = same-front g.new.text h.new.text x₁.out.text x₂.out.text (ap (λ (y : Called). y.out.text) m) (omega (arith, g.text-on.at-is, h.text-on.at-is)) in
-    let e = same-front g.new.ends h.new.ends x₁.out.ends x₂.out.ends (ap (λ (y : Called). y.out.ends) m) (omega (arith, g.ends_on.at-is, h.ends_on.at-is)) in
-    let r = same-front g.new.rows h.new.rows x₁.out.rows x₂.out.rows (ap (λ (y : Called). y.out.rows) m) (omega (arith, g.rows_on.at-is, h.rows_on.at-is)) in
-    (g.text-on.buf-is ∙ ap (sets text p.text) t ∙ sym h.text-on.buf-is, g.ends_on.buf-is ∙ ap (sets ends p.ends) e ∙ sym h.ends_on.buf-is, g.rows_on.buf-is ∙ ap (sets rows p.rows) r ∙ sym h.rows_on.buf-is)
+    let t = same-front g.new.text h.new.text x₁.out.text x₂.out.text (ap (λ (y : Called). y.out.text) m) (omega (arith, g.text_on.at_is, h.text_on.at_is)) in
+    let e = same-front g.new.ends h.new.ends x₁.out.ends x₂.out.ends (ap (λ (y : Called). y.out.ends) m) (omega (arith, g.ends_on.at_is, h.ends_on.at_is)) in
+    let r = same-front g.new.rows h.new.rows x₁.out.rows x₂.out.rows (ap (λ (y : Called). y.out.rows) m) (omega (arith, g.rows_on.at_is, h.rows_on.at_is)) in
+    (g.text_on.buf_is ∙ ap (sets text p.text) t ∙ sym h.text_on.buf_is, g.ends_on.buf_is ∙ ap (sets ends p.ends) e ∙ sym h.ends_on.buf_is, g.rows_on.buf_is ∙ ap (sets rows p.rows) r ∙ sym h.rows_on.buf_is)
 
 -- where the piece ends the call does
 pub took-end :

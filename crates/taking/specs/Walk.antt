@@ -25,14 +25,14 @@ adding k o r = record { taken = k + r.taken; out = then o r.out; short = r.short
 pub record Inside (p : Flow) (piece text : Bytes) (ends rows : List ℕ) : Type 0 where
   pub taken_in : p.taken ≤ length piece
   pub text_in : p.text ≤ length text
-  pub ends-in : p.ends ≤ length ends
+  pub ends_in : p.ends ≤ length ends
   pub rows_in : p.rows ≤ length rows
 
 -- new was written at a place of a buffer
 pub record Put {A : Type 0} (buf : List A) (at : ℕ) (new buf' : List A) (at' : ℕ) : Type 0 where
   pub room : at + length new ≤ length buf
-  pub buf-is : buf' ≡ sets buf at new
-  pub at-is : at' ≡ at + length new
+  pub buf_is : buf' ≡ sets buf at new
+  pub at_is : at' ≡ at + length new
 
 -- The call has come from p to q, and has written what lies between; what was to come from p on is that, and then x.
 pub record Grew (piece : Bytes) (p : Flow) (text ends rows : List ℕ) (q : Flow) (text' ends' rows' : List ℕ) (x : Called) : Type 0 where
@@ -40,7 +40,7 @@ pub record Grew (piece : Bytes) (p : Flow) (text ends rows : List ℕ) (q : Flow
   pub on : p.taken ≤ q.taken
   pub inside : q.taken ≤ length piece
   pub model : rest_of p piece text ends rows ≡ adding (q.taken - p.taken) new x
-  pub text-on : Put text p.text new.text text' q.text
+  pub text_on : Put text p.text new.text text' q.text
   pub ends_on : Put ends p.ends new.ends ends' q.ends
   pub rows_on : Put rows p.rows new.rows rows' q.rows
 
@@ -55,12 +55,12 @@ abbrev pub one : Bool → ℕ
 one x = cond x 1 0
 
 -- the same by the lengths alone
-abbrev pub insideBy : Flow → ℕ → ℕ → ℕ → ℕ → Bool
-insideBy p piece text ends rows = ((leb p.taken piece && leb p.text text) && leb p.ends ends) && leb p.rows rows
+abbrev pub inside_by : Flow → ℕ → ℕ → ℕ → ℕ → Bool
+inside_by p piece text ends rows = ((leb p.taken piece && leb p.text text) && leb p.ends ends) && leb p.rows rows
 
 -- the call stays where it is, and nothing is written
 pub record Unmoved (p : Flow) (text ends rows : List ℕ) (q : Flow) (text' ends' rows' : List ℕ) : Type 0 where
   pub flow : q ≡ p
-  pub text-stays : text' ≡ text
+  pub text_stays : text' ≡ text
   pub ends_stay : ends' ≡ ends
   pub rows_stay : rows' ≡ rows

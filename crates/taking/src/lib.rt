@@ -5,7 +5,7 @@
 ghost use Rattle.std.specs.Prelude.{◌+◌, ◌-◌, ◌≤◌, ◌<◌, min, ◌≡◌, true, false, cond, ◌||◌, ◌++◌, length, replicate, leb};
 ghost use Rattle.std.proofs.lemmas.List.Edits.{sets};
 ghost use Rattle.output.specs.Stream.{is_over, onward, when};
-ghost use Rattle.taking.specs.Walk.{insideBy, Took, Unmoved, one};
+ghost use Rattle.taking.specs.Walk.{inside_by, Took, Unmoved, one};
 
 use output::{Due, Stream};
 use state::Check;
@@ -24,7 +24,7 @@ pub struct Flow {
 
 // Whether how far a call has come is in the piece and in each buffer, by their lengths.
 pub fn is_inside(p: Flow, piece: usize, text: usize, ends: usize, rows: usize) -> bool
-    ensures { result ≡ insideBy p piece text ends rows }
+    ensures { result ≡ inside_by p piece text ends rows }
 {
     (p.taken <= piece) & (p.text <= text) & (p.ends <= ends) & (p.rows <= rows)
 }
@@ -32,8 +32,8 @@ pub fn is_inside(p: Flow, piece: usize, text: usize, ends: usize, rows: usize) -
 // Takes one byte; or the call ends here: where the piece ends, where the stream is over, or before a byte
 // whose output does not all fit. A place that lies outside the piece or a buffer stays.
 pub fn take_byte(p: Flow, piece: &[u8], text: &mut [u8], ends: &mut [u32], rows: &mut [u32]) -> Flow
-    ensures took { insideBy p (length piece.now) (length text.old) (length ends.old) (length rows.old) ≡ true → Took piece.now p text.old ends.old rows.old result text.new ends.new rows.new }
-    ensures unmoved { insideBy p (length piece.now) (length text.old) (length ends.old) (length rows.old) ≡ false → Unmoved p text.old ends.old rows.old result text.new ends.new rows.new }
+    ensures took { inside_by p (length piece.now) (length text.old) (length ends.old) (length rows.old) ≡ true → Took piece.now p text.old ends.old rows.old result text.new ends.new rows.new }
+    ensures unmoved { inside_by p (length piece.now) (length text.old) (length ends.old) (length rows.old) ≡ false → Unmoved p text.old ends.old rows.old result text.new ends.new rows.new }
 {
     if !is_inside(p, piece.len(), text.len(), ends.len(), rows.len()) {
         return p;

@@ -9,9 +9,9 @@ use lib.Count.{count_trailing_zeros}
 use Rattle.format.specs.Table.{Bytes}
 use Rattle.format.specs.Dialect.{Dialect}
 use Rattle.steps.specs.Steps.{start}
-use Rattle.steps.specs.Numbers.{formNumber}
+use Rattle.steps.specs.Numbers.{form_number}
 use Rattle.runs.specs.Runs.{run, is_plain}
-use Rattle.words.specs.Words.{word, blockEnd, Stops}
+use Rattle.words.specs.Words.{word, block_end, Stops}
 use Rattle.runs.proofs.Runs.{run_join, run-within}
 use Rattle.words.proofs.Words.{Marked, marked-on, marked-none, marked-some, block}
 use Rattle.fill.specs.declared.Head.{Head}
@@ -24,11 +24,11 @@ use Rattle.stride.specs.Stride.{Plain}
 pub record Base (d : Dialect) (t : List Bool) (f : Bytes) : Type 0 where
   pub stops : Stops t d
   pub bytes : (j : ℕ) → get_or f j 0 < 256
-  pub no-lf : d.delimiterByte ≡ 0x0A → ⊥
+  pub no_lf : d.delimiter_byte ≡ 0x0A → ⊥
 
 -- at i, in a field that begins at h; up to i it is plain text
 pub record Fields (d : Dialect) (f : Bytes) (p : Head) (text₀ ends₀ rows₀ : List ℕ) (i : ℕ) (h : Head) (text ends rows : List ℕ) : Type 0 where
-  pub form : h.form ≡ formNumber start
+  pub form : h.form ≡ form_number start
   pub held : h.held ≡ 0
   pub within : i ≤ length f
   pub from : h.at ≤ i
@@ -36,13 +36,13 @@ pub record Fields (d : Dialect) (f : Bytes) (p : Head) (text₀ ends₀ rows₀ 
   pub wrote : (w : Bool) → Wrote w d f p text₀ ends₀ rows₀ h text ends rows
 
 pub fields-start :
-    {d : Dialect} {f : Bytes} {p : Head} {text ends rows : List ℕ} → p.at ≤ length f → p.form ≡ formNumber start → p.held ≡ 0
+    {d : Dialect} {f : Bytes} {p : Head} {text ends rows : List ℕ} → p.at ≤ length f → p.form ≡ form_number start → p.held ≡ 0
     → Fields d f p text ends rows p.at p text ends rows
 fields-start l e₁ e₂ = record { form = e₁; held = e₂; within = l; from = omega arith; so_far = omega arith; wrote = λ w. wrote_none }
 
 -- the block from i on ends at e
 pub block_at :
-    (t : List Bool) (f : Bytes) (i e w : ℕ) → e ≡ blockEnd (length f) i → i < length f → w ≡ word t (take 64 (drop i f))
+    (t : List Bool) (f : Bytes) (i e w : ℕ) → e ≡ block_end (length f) i → i < length f → w ≡ word t (take 64 (drop i f))
     → (i < e) × Marked t f e i w × (e ≤ length f) × (e - i ≤ 64)
 block_at t f i e w q l h = let b = block t f i w l h in rw q (b.on, b.marked, b.within, b.small)
 
@@ -69,7 +69,7 @@ module _
           let q = marked-some t (is_plain d) base.stops f base.bytes e i w k l m z in
           let q₀ = q.0 in
           let on = fields-text (count_trailing_zeros 64 w) q.1 in
-          (omega arith, record { form = g.form; held = g.held; no-lf = base.no-lf; from = on.from; inside = omega arith; so_far = on.so_far })
+          (omega arith, record { form = g.form; held = g.held; no_lf = base.no_lf; from = on.from; inside = omega arith; so_far = on.so_far })
 
       pub no_stop : w ≡ 0 → Fields d f p text₀ ends₀ rows₀ (i + (e - i)) h text ends rows
       no_stop z = fields-text (e - i) (marked-none t (is_plain d) base.stops f base.bytes e i w k l z)
@@ -95,10 +95,10 @@ joined g k = record { form = k.form; held = k.held; within = k.within; from = k.
 -- behind a field: at the start of the next
 pub fields-next :
     {d : Dialect} {f : Bytes} {p h : Head} {text₀ ends₀ rows₀ text ends rows : List ℕ} {i : ℕ}
-    → ((w : Bool) → Wrote w d f p text₀ ends₀ rows₀ h text ends rows) → h.at ≡ i → i ≤ length f → h.form ≡ formNumber start → h.held ≡ 0 → Fields d f p text₀ ends₀ rows₀ i h text ends rows
+    → ((w : Bool) → Wrote w d f p text₀ ends₀ rows₀ h text ends rows) → h.at ≡ i → i ≤ length f → h.form ≡ form_number start → h.held ≡ 0 → Fields d f p text₀ ends₀ rows₀ i h text ends rows
 fields-next w e l e₁ e₂ = record { form = e₁; held = e₂; within = l; from = omega arith; so_far = omega arith; wrote = w }
 
 pub start-again :
-    (y : Bool) (p : Head) (next n : ℕ) (row : Bool) {r : Head} → r ≡ cond y (behind p next row n) p → p.form ≡ formNumber start → p.held ≡ 0 → (r.form ≡ formNumber start) × (r.held ≡ 0)
+    (y : Bool) (p : Head) (next n : ℕ) (row : Bool) {r : Head} → r ≡ cond y (behind p next row n) p → p.form ≡ form_number start → p.held ≡ 0 → (r.form ≡ form_number start) × (r.held ≡ 0)
 start-again true p next n row e e₁ e₂ = rw e (refl, refl)
 start-again false p next n row e e₁ e₂ = rw e (e₁, e₂)

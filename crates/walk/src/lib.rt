@@ -5,7 +5,7 @@
 ghost use Rattle.std.specs.Prelude.{◌≡◌, Bool, true, ℕ, ◌≤◌, List, length};
 ghost use Rattle.format.specs.Dialect.{Dialect, dialect};
 ghost use Rattle.steps.specs.Steps.{start};
-ghost use Rattle.steps.specs.Numbers.{formNumber};
+ghost use Rattle.steps.specs.Numbers.{form_number};
 ghost use Rattle.words.specs.Words.{Stops};
 ghost use Rattle.fill.specs.Walk.{Wrote};
 ghost use Rattle.stride.specs.Stride.{Ample};
@@ -39,7 +39,7 @@ pub fn walked(
 
 // Whether the walk is at the start of a field, and no LF delimits fields.
 fn begins(p: Head, delimiter: u8) -> bool
-    ensures { result ≡ true → (p.form ≡ formNumber start) × (p.held ≡ 0) × (delimiter ≡ 0x0A → ⊥) }
+    ensures { result ≡ true → (p.form ≡ form_number start) × (p.held ≡ 0) × (delimiter ≡ 0x0A → ⊥) }
 {
     (p.form == steps::START) & (p.held == 0) & (delimiter != 0x0A)
 }
@@ -88,7 +88,7 @@ fn pass_fields(
 
 // Passes what stands between quotes, where a quote is no delimiter.
 fn pass_content(file: &[u8], delimiter: u8, p: Head, text: &mut [u8]) -> Head
-    ensures { (w : Bool) (d : Dialect) → d.delimiterByte ≡ delimiter → (ends rows : List ℕ) → Wrote w d file.now p text.old ends rows result text.new ends rows }
+    ensures { (w : Bool) (d : Dialect) → d.delimiter_byte ≡ delimiter → (ends rows : List ℕ) → Wrote w d file.now p text.old ends rows result text.new ends rows }
 {
     if delimiter == 0x22 {
         return p;

@@ -14,7 +14,7 @@ use lib.Dec.{leb, eqb}
 use borrow.Author.Tests.{leb-true, leb-false, eqb-true, eqb-false}
 use Rattle.format.specs.Table.{Bytes}
 use Rattle.runs.specs.Runs.{run}
-use Rattle.words.specs.Words.{bit, word, blockEnd, Marks}
+use Rattle.words.specs.Words.{bit, word, block_end, Marks}
 
 pub bit_le : (x : Bool) → bit x ≤ 1
 bit_le true = omega arith
@@ -263,10 +263,10 @@ marked-part t s n i w h = h ∙ by_length (leb n (length s - i)) refl
 
 -- the block from a place on: it is within the part and of at most 64 bytes, and the word of 64 marks is its own
 pub record Block (t : List Bool) (s : Bytes) (i w : ℕ) : Type 0 where
-  pub on : i < blockEnd (length s) i
-  pub within : blockEnd (length s) i ≤ length s
-  pub small : blockEnd (length s) i - i ≤ 64
-  pub marked : Marked t s (blockEnd (length s) i) i w
+  pub on : i < block_end (length s) i
+  pub within : block_end (length s) i ≤ length s
+  pub small : block_end (length s) i - i ≤ 64
+  pub marked : Marked t s (block_end (length s) i) i w
 
 pub block : (t : List Bool) (s : Bytes) (i w : ℕ) → i < length s → w ≡ word t (take 64 (drop i s)) → Block t s i w
 block t s i w l h = record { on = omega arith; within = omega arith; small = omega arith; marked = marked-part t s 64 i w h }

@@ -12,8 +12,8 @@ word t [] = 0
 word t (b ∷ f) = word t f * 2 + bit (get_or t b false)
 
 -- where the block from a place on ends, in a part of n bytes
-abbrev pub blockEnd : ℕ → ℕ → ℕ
-blockEnd n i = i + min 64 (n - i)
+abbrev pub block_end : ℕ → ℕ → ℕ
+block_end n i = i + min 64 (n - i)
 
 -- the table that marks each byte without a property; that of a dialect marks what is no plain text
 abbrev pub Marks : List Bool → (ℕ → Bool) → Type 0
@@ -24,4 +24,4 @@ Stops t d = Marks t (is_plain d)
 
 -- bytes of rows of bare fields: plain text, and the delimiter
 abbrev pub is_row : Dialect → ℕ → Bool
-is_row d b = is_plain d b || eqb b d.delimiterByte
+is_row d b = is_plain d b || eqb b d.delimiter_byte

@@ -4,8 +4,8 @@
 // specs/Words.antt says what a word is, and what the tables mark.
 ghost use Rattle.std.specs.Prelude.{◌≡◌, ◌+◌, ◌-◌, ◌/◌, ◌^◌, ◌<◌, ◌≤◌, length, take, drop};
 ghost use Rattle.format.specs.Dialect.{dialect};
-ghost use Rattle.runs.specs.Runs.{isInner};
-ghost use Rattle.words.specs.Words.{bit, word, blockEnd, Marks, Stops, is_row};
+ghost use Rattle.runs.specs.Runs.{is_inner};
+ghost use Rattle.words.specs.Words.{bit, word, block_end, Marks, Stops, is_row};
 
 // The word of 4 bytes by a table of marks, the first byte lowest: a short chain, of which a processor runs
 // many beside each other.
@@ -101,7 +101,7 @@ pub fn marks_16(t: &[bool; 256], s: &[u8], at: usize) -> u64
 
 // Where the block from a place on ends: 64 bytes on, or where the part ends.
 pub fn block_end(s: &[u8], at: usize) -> usize
-    ensures { result ≡ blockEnd (length s.now) at }
+    ensures { result ≡ block_end (length s.now) at }
 {
     if s.len() <= at {
         return at;
@@ -151,7 +151,7 @@ pub fn row_table(delimiter: u8, leniencies: u8) -> [bool; 256]
 
 // The table that marks what is no content between quotes.
 pub fn inner_table() -> [bool; 256]
-    ensures { Marks result isInner }
+    ensures { Marks result is_inner }
 {
     let mut t = [false; 256];
     let mut i = 0;

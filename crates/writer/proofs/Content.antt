@@ -14,8 +14,8 @@ module _ (text : Bytes) (i end : ℕ) where
   pub byte_at : i < end → end ≤ length text → slice i end text ≡ get_or text i 0 ∷ slice (i + 1) end text
   byte_at h k = rw add-one (slice-cons i end text 0 h k)
 
-  pub at-end : i ≤ end → end ≤ i → slice i end text ≡ []
-  at-end h k = let e : i ≡ end = omega arith in rw (e, slice_empty)
+  pub at_end : i ≤ end → end ≤ i → slice i end text ≡ []
+  at_end h k = let e : i ≡ end = omega arith in rw (e, slice_empty)
 
   pub quote-next : i < end → end ≤ length text → get_or text i 0 ≡ 0x22
       → doubled (slice i end text) ≡ get_or text i 0 ∷ 0x22 ∷ doubled (slice (i + 1) end text)
@@ -26,7 +26,7 @@ module _ (text : Bytes) (i end : ℕ) where
   other-next h k e = rw (byte_at h k) (doubled-other (get_or text i 0) (slice (i + 1) end text) e)
 
   pub none-next : i ≤ end → end ≤ i → doubled (slice i end text) ≡ []
-  none-next h k = rw (at-end h k) doubled-none
+  none-next h k = rw (at_end h k) doubled-none
 
   pub doubled-bound : i ≤ end → end ≤ length text → length (doubled (slice i end text)) + 2 * i ≤ 2 * end
   doubled-bound h k = omega (arith, h, doubled-length (slice i end text), length-slice i end text k)

@@ -2,11 +2,11 @@
 use Rattle.std.specs.Prelude.{Bool, cond, ◌||◌}
 use Rattle.format.specs.Table.{Bytes, Content}
 use Rattle.format.specs.Dialect.{strict}
-use Rattle.format.specs.WrittenForms.{needsQuotes, quotedForm}
+use Rattle.format.specs.WrittenForms.{needs_quotes, quoted_form}
 
 -- full quotes every field, plain one that needs it
 unfoldable pub quotes : Bool → Content → Bool
-quotes full c = full || needsQuotes strict c
+quotes full c = full || needs_quotes strict c
 
-unfoldable pub formIn : Bool → Content → Bytes
-formIn full c = cond (quotes full c) (quotedForm c) c
+unfoldable pub form_in : Bool → Content → Bytes
+form_in full c = cond (quotes full c) (quoted_form c) c

@@ -6,12 +6,12 @@ ghost use Rattle.std.specs.Prelude.{◌≡◌, ◌+◌, ◌≤◌, length, get_o
 ghost use Rattle.std.proofs.Math.Seq.{slice};
 ghost use Rattle.std.proofs.lemmas.List.Edits.{sets};
 ghost use Rattle.format.specs.Dialect.{strict};
-ghost use Rattle.format.specs.Answer.{writerNumbers};
+ghost use Rattle.format.specs.Answer.{writer_numbers};
 ghost use Rattle.format.specs.Memory.{largest32, WellFormed, table_of};
-ghost use Rattle.format.specs.WrittenForms.{isSpecial, doubled, tableBy, CanHold};
+ghost use Rattle.format.specs.WrittenForms.{is_special, doubled, table_by, CanHold};
 ghost use Rattle.format.specs.Filling.{over};
 ghost use Rattle.tables.specs.Seek.{Sought, Strays, paired};
-ghost use Rattle.writer.specs.Form.{quotes, formIn};
+ghost use Rattle.writer.specs.Form.{quotes, form_in};
 ghost use Rattle.writer.specs.Write.{Forbidden, WriteOutcome};
 
 use format::{FieldNumber, RecordNumber, TextIndex, Written};
@@ -19,7 +19,7 @@ use format::{FieldNumber, RecordNumber, TextIndex, Written};
 // Writes a table as a strict file, plain in mode 0 and full in mode 1: the file from the front of out,
 // what stands behind it left alone; or the refusal, and nothing written.
 pub fn write(text: &[u8], ends: &[u32], rows: &[u32], mode: u8, out: &mut [u8]) -> Written
-    ensures { WriteOutcome text.now ends.now rows.now mode out.old (writerNumbers result) out.new }
+    ensures { WriteOutcome text.now ends.now rows.now mode out.old (writer_numbers result) out.new }
 {
     if 1 < mode {
         return Written::UnknownMode;
@@ -45,7 +45,7 @@ pub fn write(text: &[u8], ends: &[u32], rows: &[u32], mode: u8, out: &mut [u8]) 
 // Writes a table that strict can hold, if it is within the limit and there is room.
 fn write_holdable(text: &[u8], ends: &[u32], rows: &[u32], mode: u8, out: &mut [u8]) -> Written
     requires { (mode ≤ 1) × WellFormed text.now ends.now rows.now × CanHold strict (table_of text.now ends.now rows.now) }
-    ensures { WriteOutcome text.now ends.now rows.now mode out.old (writerNumbers result) out.new }
+    ensures { WriteOutcome text.now ends.now rows.now mode out.old (writer_numbers result) out.new }
 {
     let full = mode == 1;
     let n = size(text, ends, rows, full);
@@ -88,7 +88,7 @@ fn first_uneven(rows: &[u32]) -> usize
 // The length of the file.
 fn size(text: &[u8], ends: &[u32], rows: &[u32], full: bool) -> u64
     requires { WellFormed text.now ends.now rows.now }
-    ensures { result ≡ length (tableBy (formIn full) strict (table_of text.now ends.now rows.now)) }
+    ensures { result ≡ length (table_by (form_in full) strict (table_of text.now ends.now rows.now)) }
 {
     let mut k = 0;
     let mut r = 0;
@@ -112,7 +112,7 @@ fn size(text: &[u8], ends: &[u32], rows: &[u32], full: bool) -> u64
 // The length of a field.
 fn size_field(text: &[u8], from: usize, end: usize, full: bool) -> u64
     requires { (from ≤ end) × (end ≤ length text.now) × (end ≤ largest32) }
-    ensures { result ≡ length (formIn full (slice from end text.now)) }
+    ensures { result ≡ length (form_in full (slice from end text.now)) }
 {
     let n = size_inside(text, from, end);
     if is_quoted(text, from, end, full) {
@@ -160,7 +160,7 @@ fn is_quoted(text: &[u8], from: usize, end: usize, full: bool) -> bool
 
 // Whether a byte is special: a comma, a quote, CR or LF.
 fn is_special(b: u8) -> bool
-    ensures { result ≡ isSpecial strict b }
+    ensures { result ≡ is_special strict b }
 {
     let class = steps::class_of(b',', 0, b);
     steps::DELIMITER <= class && class <= steps::LF
@@ -168,8 +168,8 @@ fn is_special(b: u8) -> bool
 
 // Writes the file.
 fn put(text: &[u8], ends: &[u32], rows: &[u32], full: bool, out: &mut [u8])
-    requires { WellFormed text.now ends.now rows.now × (length (tableBy (formIn full) strict (table_of text.now ends.now rows.now)) ≤ length out.old) }
-    ensures { out.new ≡ over (tableBy (formIn full) strict (table_of text.now ends.now rows.now)) out.old }
+    requires { WellFormed text.now ends.now rows.now × (length (table_by (form_in full) strict (table_of text.now ends.now rows.now)) ≤ length out.old) }
+    ensures { out.new ≡ over (table_by (form_in full) strict (table_of text.now ends.now rows.now)) out.old }
 {
     let mut k = 0;
     let mut r = 0;
@@ -196,9 +196,9 @@ fn put(text: &[u8], ends: &[u32], rows: &[u32], full: bool, out: &mut [u8])
 
 // Writes a field from a place on, and says where it ends.
 fn put_field(text: &[u8], from: usize, end: usize, full: bool, out: &mut [u8], at: usize) -> usize
-    requires { (from ≤ end) × (end ≤ length text.now) × (at + length (formIn full (slice from end text.now)) ≤ length out.old) }
-    ensures value { result ≡ at + length (formIn full (slice from end text.now)) }
-    ensures out_after { out.new ≡ sets out.old at (formIn full (slice from end text.now)) }
+    requires { (from ≤ end) × (end ≤ length text.now) × (at + length (form_in full (slice from end text.now)) ≤ length out.old) }
+    ensures value { result ≡ at + length (form_in full (slice from end text.now)) }
+    ensures out_after { out.new ≡ sets out.old at (form_in full (slice from end text.now)) }
 {
     if !is_quoted(text, from, end, full) {
         return put_inside(text, from, end, out, at);

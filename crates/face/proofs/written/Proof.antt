@@ -1,8 +1,8 @@
 -- `face::written` meets its contract.
 use mathlib.Core.Path.{sym, ap, ◌∙◌}
 use Rattle.format.specs.declared.Written.{Written}
-use Rattle.format.specs.Answer.{writerNumbers}
-use Rattle.face.specs.Face.{writtenFrom}
+use Rattle.format.specs.Answer.{writer_numbers}
+use Rattle.face.specs.Face.{written_from}
 use borrow.Author.Rules.{rules}
 use Rattle.face.proofs.written.Statement.{statement}
 use Rattle.face.proofs.written.Tie as tie
@@ -56,28 +56,28 @@ outcome-requires-8 : tie.Need-outcome-requires-8
 outcome-requires-8 c κs = search rules
 
 returns : tie.Need-returns
-returns c = c.outcome.ensures ∙ ap (λ (a : Written). writtenFrom (writerNumbers a)) (sym c.before.before.answer.given.1)
+returns c = c.outcome.ensures ∙ ap (λ (a : Written). written_from (writer_numbers a)) (sym c.before.before.answer.given.1)
 
 returns-2 : tie.Need-returns-2
-returns-2 c = c.outcome2.ensures ∙ ap (λ (a : Written). writtenFrom (writerNumbers a)) (sym c.before.enum_told.given.1)
+returns-2 c = c.outcome2.ensures ∙ ap (λ (a : Written). written_from (writer_numbers a)) (sym c.before.enum_told.given.1)
 
 returns-3 : tie.Need-returns-3
-returns-3 c = c.outcome3.ensures ∙ ap (λ (a : Written). writtenFrom (writerNumbers a)) (sym c.before.enum-told2.given.1)
+returns-3 c = c.outcome3.ensures ∙ ap (λ (a : Written). written_from (writer_numbers a)) (sym c.before.enum-told2.given.1)
 
 returns-4 : tie.Need-returns-4
-returns-4 c = c.outcome4.ensures ∙ ap (λ (a : Written). writtenFrom (writerNumbers a)) (sym c.before.before.answer2.given.1)
+returns-4 c = c.outcome4.ensures ∙ ap (λ (a : Written). written_from (writer_numbers a)) (sym c.before.before.answer2.given.1)
 
 returns-5 : tie.Need-returns-5
-returns-5 c = c.outcome5.ensures ∙ ap (λ (a : Written). writtenFrom (writerNumbers a)) (sym c.before.before.answer3.given.1)
+returns-5 c = c.outcome5.ensures ∙ ap (λ (a : Written). written_from (writer_numbers a)) (sym c.before.before.answer3.given.1)
 
 returns-6 : tie.Need-returns-6
-returns-6 c = c.outcome6.ensures ∙ ap (λ (a : Written). writtenFrom (writerNumbers a)) (sym c.before.before.answer4.given.1)
+returns-6 c = c.outcome6.ensures ∙ ap (λ (a : Written). written_from (writer_numbers a)) (sym c.before.before.answer4.given.1)
 
 returns-7 : tie.Need-returns-7
-returns-7 c = c.outcome7.ensures ∙ ap (λ (a : Written). writtenFrom (writerNumbers a)) (sym c.before.enum-told3.given.1)
+returns-7 c = c.outcome7.ensures ∙ ap (λ (a : Written). written_from (writer_numbers a)) (sym c.before.enum-told3.given.1)
 
 returns-8 : tie.Need-returns-8
-returns-8 c = c.outcome8.ensures ∙ ap (λ (a : Written). writtenFrom (writerNumbers a)) (sym c.before.enum-told4.given.1)
+returns-8 c = c.outcome8.ensures ∙ ap (λ (a : Written). written_from (writer_numbers a)) (sym c.before.enum-told4.given.1)
 
 pub written-spec : {M : Type 1} → statement M
 written-spec =

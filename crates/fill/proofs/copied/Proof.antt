@@ -4,13 +4,13 @@ use mathlib.Core.Bool.{true}
 use lib.ListN.{length}
 use borrow.Author.Tests.{not-true, not-false, leb-true}
 use Rattle.format.proofs.Tests.{and_both}
-use Rattle.fill.specs.Put.{copyFits}
+use Rattle.fill.specs.Put.{copy_fits}
 use borrow.Author.Rules.{rules}
 use Rattle.fill.proofs.copied.Statement.{statement}
 use Rattle.fill.proofs.copied.Tie as tie
 
 -- what the test says
-test : (c : tie.Else1) → let a = c.before.before.before.before.args in copyFits (length a.file.now) a.from a.count (length a.text.now) a.at ≡ true
+test : (c : tie.Else1) → let a = c.before.before.before.before.args in copy_fits (length a.file.now) a.from a.count (length a.text.now) a.at ≡ true
 test c = sym c.before.copy-fits.ensures ∙ not-false _ c.if1.false
 
 copy-fits-requires : tie.Need-copy-fits-requires

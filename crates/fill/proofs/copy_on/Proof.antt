@@ -19,55 +19,55 @@ add-text : tie.Need-overflow-add-text invariant-loop decreases-loop
 add-text c =
     let h = c.before.loop.invariant in
     let little = h.little in
-    let file-room = h.file-room in
-    let text-room = h.text-room in
+    let file_room = h.file_room in
+    let text_room = h.text_room in
     omega arith
 
 shared-slice-read-text : tie.Need-shared-slice-read-text invariant-loop decreases-loop
 shared-slice-read-text c =
     let h = c.before.before.loop.invariant in
     let little = h.little in
-    let file-room = h.file-room in
-    let text-room = h.text-room in
+    let file_room = h.file_room in
+    let text_room = h.text_room in
     omega arith
 
 add-text-2 : tie.Need-overflow-add-text-2 invariant-loop decreases-loop
 add-text-2 c =
     let h = c.before.before.loop.invariant in
     let little = h.little in
-    let file-room = h.file-room in
-    let text-room = h.text-room in
+    let file_room = h.file_room in
+    let text_room = h.text_room in
     omega arith
 
 slice-write-text : tie.Need-slice-write-text invariant-loop decreases-loop
 slice-write-text c =
     let h = c.before.before.loop.invariant in
     let little = h.little in
-    let file-room = h.file-room in
-    let text-room = h.text-room in
+    let file_room = h.file_room in
+    let text_room = h.text_room in
     omega arith
 
 add-j : tie.Need-overflow-add-j invariant-loop decreases-loop
 add-j c =
     let h = c.before.before.loop.invariant in
     let little = h.little in
-    let file-room = h.file-room in
-    let text-room = h.text-room in
+    let file_room = h.file_room in
+    let text_room = h.text_room in
     omega arith
 
 loop-less : tie.Need-loop-smaller invariant-loop decreases-loop
 loop-less c =
     let h = c.before.before.loop.invariant in
     let little = h.little in
-    let file-room = h.file-room in
-    let text-room = h.text-room in
+    let file_room = h.file_room in
+    let text_room = h.text_room in
     omega arith
 
 loop-again : tie.Need-loop-preserved invariant-loop decreases-loop
 loop-again c = copied_more _ _ _ _ _ _ _ c.before.before.loop.invariant c.before.loop-test.true
 
 add-result : tie.Need-overflow-add-result invariant-loop decreases-loop
-add-result c = let text-room = c.before.loop.invariant.text-room in omega arith
+add-result c = let text_room = c.before.loop.invariant.text_room in omega arith
 
 same_length : tie.Need-same-length invariant-loop decreases-loop
 same_length c = c.before.loop.invariant.size

@@ -1,7 +1,7 @@
 -- `fill::end_fits` meets its contract.
 use mathlib.Core.Path.{refl}
-use Rattle.fill.proofs.end_fits.Statement.{statement}
-use Rattle.fill.proofs.end_fits.Tie as tie
+use Rattle.fill.proofs.end-fits.Statement.{statement}
+use Rattle.fill.proofs.end-fits.Tie as tie
 
 returns : tie.Need-returns
 returns c = refl

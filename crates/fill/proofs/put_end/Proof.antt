@@ -6,7 +6,7 @@ use mathlib.Core.Bool.{true, cond}
 use lib.ListN.{length}
 use borrow.Author.Tests.{not-true, not-false}
 use Rattle.fill.proofs.Put.{end-room, rows_few}
-use Rattle.fill.specs.Put.{endFits}
+use Rattle.fill.specs.Put.{end_fits}
 use borrow.Author.Rules.{rules}
 use Rattle.format.specs.Memory.{largest32}
 use Rattle.fill.proofs.put_end.Statement.{statement}
@@ -19,14 +19,14 @@ returns : tie.Need-returns
 returns c = rw (sym c.before.end_fits.ensures ∙ not-true _ c.if1.true) (refl, (refl, refl))
 
 -- what the test says
-test : (c : tie.Else1) → let a = c.before.before.before.before.args in endFits a.p a.p.text a.row (length a.ends.now) (length a.rows.now) ≡ true
+test : (c : tie.Else1) → let a = c.before.before.before.before.args in end_fits a.p a.p.text a.row (length a.ends.now) (length a.rows.now) ≡ true
 test c = sym c.before.end_fits.ensures ∙ not-false _ c.if1.false
 
 few : (c : tie.Else1) → let a = c.before.before.before.before.args in (a.p.ends < largest32) × (a.p.rows + cond a.row 1 0 ≤ 18446744073709551615)
 few c =
     let a = c.before.before.before.before.args in
     let r = end-room a.p a.p.text a.row (length a.ends.now) (length a.rows.now) (test c) in
-    (r.few, rows_few a.row a.p.rows (length a.rows.now) r.rows-room (omega (arith, c.before.before.before.before.well-formed)) (omega (arith, c.before.before.before.before.well-formed)))
+    (r.few, rows_few a.row a.p.rows (length a.rows.now) r.rows_room (omega (arith, c.before.before.before.before.well-formed)) (omega (arith, c.before.before.before.before.well-formed)))
 
 write-end-requires : tie.Need-write-end-requires
 write-end-requires c κs = test c.before.before

@@ -6,7 +6,7 @@ use mathlib.Core.Bool.{true, cond}
 use lib.ListN.{length}
 use borrow.Author.Tests.{not-true, not-false}
 use Rattle.fill.proofs.Put.{FieldRoom, field_room, room-end, rows_few}
-use Rattle.fill.specs.Put.{fieldFits, end_of}
+use Rattle.fill.specs.Put.{field_fits, end_of}
 use borrow.Author.Rules.{rules}
 use Rattle.format.specs.Memory.{largest32}
 use Rattle.fill.proofs.put_whole.Statement.{statement}
@@ -21,7 +21,7 @@ returns c = rw (sym c.before.field-fits.ensures ∙ not-true _ c.if1.true) (refl
 -- what the test says
 test :
     (c : tie.Else1) → let a = c.before.before.before.before.before.before.args in
-    fieldFits a.p a.x (length a.file.now) (length a.text.now) (length a.ends.now) (length a.rows.now) ≡ true
+    field_fits a.p a.x (length a.file.now) (length a.text.now) (length a.ends.now) (length a.rows.now) ≡ true
 test c = sym c.before.field-fits.ensures ∙ not-false _ c.if1.false
 
 room :
@@ -36,13 +36,13 @@ few c =
     let s = c.before.before.before.before.before.before in
     let a = s.args in
     let r = (room c).end in
-    (r.few, rows_few a.x.row a.p.rows (length a.rows.now) r.rows-room (omega (arith, s.well-formed)) (omega (arith, s.well-formed)))
+    (r.few, rows_few a.x.row a.p.rows (length a.rows.now) r.rows_room (omega (arith, s.well_formed)) (omega (arith, s.well_formed)))
 
 sub-copy-on : tie.Need-overflow-sub-copy-on
 sub-copy-on c = (room c.before).order
 
 copy-on-requires : tie.Need-copy-on-requires
-copy-on-requires c κs = let r = room c.before.before in (omega (arith, r.order, r.inside), r.text-room)
+copy-on-requires c κs = let r = room c.before.before in (omega (arith, r.order, r.inside), r.text_room)
 
 write-end-requires : tie.Need-write-end-requires
 write-end-requires c κs =

@@ -19,7 +19,7 @@ mul-ends : tie.Need-overflow-mul-ends
 mul-ends c = omega (arith, (room c).few)
 
 slice-write-ends : tie.Need-slice-write-ends
-slice-write-ends c = (room c).ends-room
+slice-write-ends c = (room c).ends_room
 
 same_length : tie.Need-same-length
 same_length c = search rules
@@ -34,10 +34,10 @@ cast-rows : tie.Need-overflow-cast-rows
 cast-rows c = omega (arith, (room c.before).few)
 
 mul-rows : tie.Need-overflow-mul-rows
-mul-rows c = omega (arith, (room c.before).rows-room (not-false _ c.if1.false), c.before.well-formed)
+mul-rows c = omega (arith, (room c.before).rows_room (not-false _ c.if1.false), c.before.well-formed)
 
 slice-write-rows : tie.Need-slice-write-rows
-slice-write-rows c = (room c.before).rows-room (not-false _ c.if1.false)
+slice-write-rows c = (room c.before).rows_room (not-false _ c.if1.false)
 
 same-length-2 : tie.Need-same-length-2
 same-length-2 c = search rules

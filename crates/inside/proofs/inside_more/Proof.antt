@@ -4,7 +4,7 @@ use native.Mathlib.Omega.{arith}
 use mathlib.Core.Path.{refl}
 use lib.Dec.{leb}
 use lib.ListN.{length}
-use Rattle.fill.specs.Put.{copyFits}
+use Rattle.fill.specs.Put.{copy_fits}
 use Rattle.inside.proofs.Quoted.{grows, inside-quotes, inside-feed, inside-copied}
 use borrow.Author.Rules.{rules}
 use Rattle.inside.proofs.inside_more.Statement.{statement}
@@ -29,7 +29,7 @@ add-t16 c =
     let s = r.before.before.before.before.before in
     let a = s.args in
     let g = inside-quotes a.file.now a.text.now a.at a.n s.requires r.pair-run.result (omega (arith, r.pair-run.ensures)) (leb (a.n + r.pair-run.result) (length a.text.now)) refl in
-    omega (arith, k.put-run.ensures.0, g.within, s.well-formed)
+    omega (arith, k.put-run.ensures.0, g.within, s.well_formed)
 
 add-t17 : tie.Need-overflow-add-t17
 add-t17 c =
@@ -38,7 +38,7 @@ add-t17 c =
     let s = r.before.before.before.before.before in
     let a = s.args in
     let g = inside-quotes a.file.now a.text.now a.at a.n s.requires r.pair-run.result (omega (arith, r.pair-run.ensures)) (leb (a.n + r.pair-run.result) (length a.text.now)) refl in
-    omega (arith, k.put-run.ensures.0, g.within, s.well-formed)
+    omega (arith, k.put-run.ensures.0, g.within, s.well_formed)
 
 same_length : tie.Need-same-length
 same_length c = search rules
@@ -67,7 +67,7 @@ add-t22 c =
     let s = t.before.before.before.before.before.before in
     let a = s.args in
     let g = inside-feed a.file.now a.text.now a.at a.n s.requires t.if2.true (leb (a.n + 1) (length a.text.now)) refl in
-    omega (arith, k.put-run2.ensures.0, g.within, s.well-formed)
+    omega (arith, k.put-run2.ensures.0, g.within, s.well_formed)
 
 same-length-2 : tie.Need-same-length-2
 same-length-2 c = search rules
@@ -87,7 +87,7 @@ copied-requires : tie.Need-copied-requires
 copied-requires c κs = search rules
 
 sub-t25 : tie.Need-overflow-sub-t25
-sub-t25 c = let k = c.before.before in let r = k.before.before in let s = r.before.before.before.before.before.before.before in omega (arith, k.copied.ensures.0, grows (copyFits (length s.args.file.now) s.args.at r.inner-run.result (length s.args.text.now) s.args.n) s.args.n r.inner-run.result)
+sub-t25 c = let k = c.before.before in let r = k.before.before in let s = r.before.before.before.before.before.before.before in omega (arith, k.copied.ensures.0, grows (copy_fits (length s.args.file.now) s.args.at r.inner-run.result (length s.args.text.now) s.args.n) s.args.n r.inner-run.result)
 
 add-t26 : tie.Need-overflow-add-t26
 add-t26 c =
@@ -95,8 +95,8 @@ add-t26 c =
     let r = k.before.before in
     let s = r.before.before.before.before.before.before.before in
     let a = s.args in
-    let g = inside-copied a.file.now a.text.now a.at a.n s.requires r.inner-run.result (omega (arith, r.inner-run.ensures)) (copyFits (length a.file.now) a.at r.inner-run.result (length a.text.now) a.n) refl in
-    omega (arith, k.copied.ensures.0, g.within, s.well-formed)
+    let g = inside-copied a.file.now a.text.now a.at a.n s.requires r.inner-run.result (omega (arith, r.inner-run.ensures)) (copy_fits (length a.file.now) a.at r.inner-run.result (length a.text.now) a.n) refl in
+    omega (arith, k.copied.ensures.0, g.within, s.well_formed)
 
 same-length-3 : tie.Need-same-length-3
 same-length-3 c = search rules

@@ -1,10 +1,10 @@
 -- `jump::form_behind` meets its contract.
 use mathlib.Core.Path.{◌≡◌, sym, ◌∙◌, ap}
-use Rattle.format.specs.Dialect.{lf, names, dialect, classOf}
+use Rattle.format.specs.Dialect.{lf, names, dialect, class_of}
 use Rattle.steps.specs.declared.Stepped.{Stepped}
 use Rattle.steps.specs.Steps.{step_of}
 use Rattle.steps.specs.Numbers.{form_of, coded}
-use Rattle.jump.specs.Pass.{formBehind}
+use Rattle.jump.specs.Pass.{form_behind}
 use borrow.Author.Rules.{rules}
 use Rattle.jump.proofs.form_behind.Statement.{statement}
 use Rattle.jump.proofs.form_behind.Tie as tie
@@ -12,8 +12,8 @@ use Rattle.jump.proofs.form_behind.Tie as tie
 -- what the code's answer says of the byte
 by :
     (l : tie.After-step) {s : Stepped} → l.step.result ≡ s → let a = l.before.args in
-    formBehind s ≡ formBehind (coded (step_of (names a.leniencies lf) (form_of a.form) (classOf (dialect a.delimiter a.leniencies) a.b)))
-by l e = ap formBehind (sym e ∙ l.step.ensures)
+    form_behind s ≡ form_behind (coded (step_of (names a.leniencies lf) (form_of a.form) (class_of (dialect a.delimiter a.leniencies) a.b)))
+by l e = ap form_behind (sym e ∙ l.step.ensures)
 
 step-requires : tie.Need-step-requires
 step-requires c κs = search rules

@@ -1,7 +1,7 @@
 -- `jump::index_accepted` meets its contract.
 use mathlib.Core.Path.{refl}
 use Rattle.pieces.proofs.Stands.{Takes, accepts-it}
-use Rattle.jump.proofs.Outcomes.{lacks-room, builds, within-limit}
+use Rattle.jump.proofs.Outcomes.{lacks-room, builds, within_limit}
 use borrow.Author.Rules.{rules}
 use Rattle.jump.proofs.index_accepted.Statement.{statement}
 use Rattle.jump.proofs.index_accepted.Tie as tie
@@ -34,7 +34,7 @@ returns c =
     rw (c.not-indexed.ensures, c.before.nowhere.ensures) (lacks-room (taken (begin t.before)) refl t.if1.true)
 
 write-entries-requires : tie.Need-write-entries-requires
-write-entries-requires c κs = within-limit (taken (begin c.before.before))
+write-entries-requires c κs = within_limit (taken (begin c.before.before))
 
 nowhere-requires-2 : tie.Need-nowhere-requires-2
 nowhere-requires-2 c κs = search rules

@@ -7,7 +7,7 @@ use Rattle.jump.proofs.is_usable.Statement.{statement}
 use Rattle.jump.proofs.is_usable.Tie as tie
 
 returns : tie.Need-returns
-returns c = (λ e. record { within = omega arith; behind-lf = λ h. absurd (omega arith) }, λ e. absurd (true≢false e))
+returns c = (λ e. record { within = omega arith; behind_lf = λ h. absurd (omega arith) }, λ e. absurd (true≢false e))
 
 returns-2 : tie.Need-returns-2
 returns-2 c = (λ e. absurd (false≢true e), λ e u. omega (arith, u.within))
@@ -19,7 +19,7 @@ shared-slice-read-result : tie.Need-shared-slice-read-result
 shared-slice-read-result c = search rules
 
 returns-3 : tie.Need-returns-3
-returns-3 c = (λ e. record { within = omega arith; behind-lf = λ h. eqb-true _ _ e }, λ e u. eqb-false _ _ e (u.behind-lf (omega arith)))
+returns-3 c = (λ e. record { within = omega arith; behind_lf = λ h. eqb-true _ _ e }, λ e u. eqb-false _ _ e (u.behind_lf (omega arith)))
 
 pub is-usable-spec : {M : Type 1} → statement M
 is-usable-spec =

@@ -8,7 +8,7 @@ use borrow.Author.Tests.{not-true, not-false}
 use Rattle.format.specs.Dialect.{Valid}
 use Rattle.format.specs.Walk.{Usable}
 use Rattle.steps.proofs.Verdicts.{valid-yes, yes-valid}
-use Rattle.jump.specs.Jump.{refusal-1, refusal-2, no-entry, wrong-entry, walked}
+use Rattle.jump.specs.Jump.{refusal_1, refusal_2, no_entry, wrong_entry, walked}
 use borrow.Author.Rules.{rules}
 use Rattle.jump.proofs.locate.Statement.{statement}
 use Rattle.jump.proofs.locate.Tie as tie
@@ -35,7 +35,7 @@ returns : tie.Need-returns
 returns c =
     let v = c.before.before in
     rw c.not_found.ensures
-    (refusal-1 (λ h. true≢false (sym (valid-yes _ _ h) ∙ (sym v.is-valid.ensures ∙ not-true v.is-valid.result c.before.if1.true))))
+    (refusal_1 (λ h. true≢false (sym (valid-yes _ _ h) ∙ (sym v.is-valid.ensures ∙ not-true v.is-valid.result c.before.if1.true))))
 
 cast-if2 : tie.Need-overflow-cast-if2
 cast-if2 c = search rules
@@ -44,13 +44,13 @@ not-found-requires-2 : tie.Need-not-found-requires-2
 not-found-requires-2 c κs = search rules
 
 returns-2 : tie.Need-returns-2
-returns-2 c = rw c.not-found2.ensures (refusal-2 (valid c.before.before) c.before.if2.true)
+returns-2 c = rw c.not-found2.ensures (refusal_2 (valid c.before.before) c.before.if2.true)
 
 not-found-requires-3 : tie.Need-not-found-requires-3
 not-found-requires-3 c κs = search rules
 
 returns-3 : tie.Need-returns-3
-returns-3 c = let e = c.before.before in rw c.not-found3.ensures (no-entry (valid e.before) e.if2.false c.before.if3.true)
+returns-3 c = let e = c.before.before in rw c.not-found3.ensures (no_entry (valid e.before) e.if2.false c.before.if3.true)
 
 mul-from : tie.Need-overflow-mul-from
 mul-from c = search rules
@@ -72,7 +72,7 @@ returns-4 c =
     let u = c.before.before in
     let e = u.before.before in
     rw c.not-found4.ensures
-    (wrong-entry (valid e.before.before) e.before.if2.false e.if3.false (u.is-usable.ensures.1 (not-true u.is-usable.result c.before.if4.true)))
+    (wrong_entry (valid e.before.before) e.before.if2.false e.if3.false (u.is-usable.ensures.1 (not-true u.is-usable.result c.before.if4.true)))
 
 walk-to-requires : tie.Need-walk-to-requires
 walk-to-requires c κs = (c.before.before.before.before.if2.false, (usable c).within)

@@ -42,7 +42,7 @@ returns-2 : tie.Need-returns-2 invariant-loop decreases-loop
 returns-2 c =
     let a = c.before.before in
     let e = a.before in
-    passes-fault _ _ _ _ e.before.before.loop.invariant e.before.loop-test.true (rw c.enum_told.given.1 at a.record-end.ensures)
+    passes-fault _ _ _ _ e.before.before.loop.invariant e.before.loop-test.true (rw c.enum_told.given.1 at a.record_end.ensures)
 
 sub-left : tie.Need-overflow-sub-left invariant-loop decreases-loop
 sub-left c = omega (arith, c.before.before.before.before.if1.false)

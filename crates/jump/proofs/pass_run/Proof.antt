@@ -1,10 +1,10 @@
 -- `jump::pass_run` meets its contract.
 use native.Mathlib.Omega.{arith}
-use Rattle.runs.specs.Runs.{isInner}
+use Rattle.runs.specs.Runs.{is_inner}
 use Rattle.runs.proofs.Runs.{run-within}
 use Rattle.words.specs.Words.{is_row}
 use Rattle.format.specs.Dialect.{dialect}
-use Rattle.jump.specs.Pass.{stays, in_row, in-quotes}
+use Rattle.jump.specs.Pass.{stays, in_row, in_quotes}
 use borrow.Author.Rules.{rules}
 use Rattle.jump.proofs.pass_run.Statement.{statement}
 use Rattle.jump.proofs.pass_run.Tie as tie
@@ -37,17 +37,17 @@ inner-run-requires c κs = search rules
 add-next : tie.Need-overflow-add-next
 add-next c =
     let s = c.before.before.before.before in
-    omega (arith, s.well-formed, run-within isInner s.args.file.now s.args.at c.inner-run.result s.requires (omega (arith, c.inner-run.ensures)))
+    omega (arith, s.well_formed, run-within is_inner s.args.file.now s.args.at c.inner-run.result s.requires (omega (arith, c.inner-run.ensures)))
 
 pairs-end-requires : tie.Need-pairs-end-requires
 pairs-end-requires c κs =
     let s = c.before.before.before.before in
-    run-within isInner s.args.file.now s.args.at c.inner-run.result s.requires (omega (arith, c.inner-run.ensures))
+    run-within is_inner s.args.file.now s.args.at c.inner-run.result s.requires (omega (arith, c.inner-run.ensures))
 
 returns-3 : tie.Need-returns-3
 returns-3 c = λ l m.
     let i = c.before in
-    in-quotes i.before.if3.true (rw i.inner-run.ensures at c.pairs_end.ensures)
+    in_quotes i.before.if3.true (rw i.inner-run.ensures at c.pairs_end.ensures)
 
 returns-4 : tie.Need-returns-4
 returns-4 c = λ l m. stays

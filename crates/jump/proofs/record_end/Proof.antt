@@ -39,22 +39,22 @@ returns : tie.Need-returns invariant-loop decreases-loop
 returns c = let b = c.before in byte-faults _ _ _ (going b) (inside b) b.form-behind.ensures c.if1.true
 
 sub-t15 : tie.Need-overflow-sub-t15 invariant-loop decreases-loop
-sub-t15 c = omega (arith, ((going c.before.before.before).at-cr c.if3.true).0)
+sub-t15 c = omega (arith, ((going c.before.before.before).at_cr c.if3.true).0)
 
 add-t16 : tie.Need-overflow-add-t16 invariant-loop decreases-loop
-add-t16 c = let b = c.before.before.before in omega (arith, inside b, (start b).well-formed)
+add-t16 c = let b = c.before.before.before in omega (arith, inside b, (start b).well_formed)
 
 returns-2 : tie.Need-returns-2 invariant-loop decreases-loop
 returns-2 c = let b = c.before.before.before in byte-ends-cr _ _ _ (going b) (inside b) b.form-behind.ensures c.before.if2.true c.if3.true
 
 add-t17 : tie.Need-overflow-add-t17 invariant-loop decreases-loop
-add-t17 c = let b = c.before.before.before in omega (arith, inside b, (start b).well-formed)
+add-t17 c = let b = c.before.before.before in omega (arith, inside b, (start b).well_formed)
 
 returns-3 : tie.Need-returns-3 invariant-loop decreases-loop
 returns-3 c = let b = c.before.before.before in byte-ends _ _ _ (going b) (inside b) b.form-behind.ensures c.before.if2.true c.if3.false
 
 add-pass-run : tie.Need-overflow-add-pass-run invariant-loop decreases-loop
-add-pass-run c = let b = c.before.before in omega (arith, inside b, (start b).well-formed)
+add-pass-run c = let b = c.before.before in omega (arith, inside b, (start b).well_formed)
 
 pass-run-requires : tie.Need-pass-run-requires invariant-loop decreases-loop
 pass-run-requires c κs = omega (arith, inside c.before.before)

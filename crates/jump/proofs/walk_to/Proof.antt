@@ -27,7 +27,7 @@ found c =
     let e = c.before.before in
     let r = e.before.before in
     let m = r.before.before in
-    walk-found (passed m.before) m.if1.false (rw e.end.given.1 at r.record-end.ensures)
+    walk-found (passed m.before) m.if1.false (rw e.end.given.1 at r.record_end.ensures)
 
 row-table-requires : tie.Need-row-table-requires
 row-table-requires c κs = search rules
@@ -71,7 +71,7 @@ returns-3 : tie.Need-returns-3
 returns-3 c =
     let t = c.before in
     let r = t.before.before in
-    rw c.not-found3.ensures (walk-late (passed r.before.before.before) r.before.before.if1.false (rw t.enum-told2.given.1 at r.record-end.ensures))
+    rw c.not-found3.ensures (walk-late (passed r.before.before.before) r.before.before.if1.false (rw t.enum-told2.given.1 at r.record_end.ensures))
 
 nowhere-requires : tie.Need-nowhere-requires
 nowhere-requires c κs = search rules

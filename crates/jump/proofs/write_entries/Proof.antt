@@ -5,7 +5,7 @@ use mathlib.Core.Path.{◌≡◌, refl}
 use mathlib.Core.List.{List}
 use lib.ListN.{length, length-set}
 use Rattle.format.specs.Dialect.{dialect}
-use Rattle.format.specs.Walk.{indexStep, Index}
+use Rattle.format.specs.Walk.{index_step, Index}
 use Rattle.format.specs.Filling.{over}
 use Rattle.jump.specs.declared.Passed.{TheVariants.To}
 use Rattle.jump.specs.Pass.{Passing}
@@ -28,7 +28,7 @@ begin l = l.before.before.before.before
 
 passing :
     (c : tie.After-known-told invariant-loop decreases-loop) → let l = c.before.before.before.before.before.before.before in let a = (begin l).args in
-    Passing (dialect a.delimiter a.leniencies) a.file.now l.loop.at indexStep (To c.before.passed.given.0.0)
+    Passing (dialect a.delimiter a.leniencies) a.file.now l.loop.at index_step (To c.before.passed.given.0.0)
 passing c = rw c.before.passed.given.1 at c.before.before.before.pass-records.ensures
 
 row-table-requires : tie.Need-row-table-requires invariant-loop decreases-loop

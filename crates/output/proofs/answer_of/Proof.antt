@@ -1,6 +1,6 @@
 -- `output::answer_of` meets its contract.
 use mathlib.Core.Path.{ap, ◌∙◌}
-use Rattle.format.specs.Answer.{refusedBy}
+use Rattle.format.specs.Answer.{refused_by}
 use Rattle.output.specs.Stream.{answer_of}
 use Rattle.output.proofs.answer_of.Statement.{statement}
 use Rattle.output.proofs.answer_of.Tie as tie
@@ -23,7 +23,7 @@ refused-by-requires c κs = tt
 
 returns-2 : tie.Need-returns-2
 unfolding answer_of
-returns-2 c = let z = c.before.before.before.is-over.ensures in rw (← z, c.before.before.if1.false) (c.refused-by.ensures ∙ ap (refusedBy 0) c.before.nowhere.ensures)
+returns-2 c = let z = c.before.before.before.is-over.ensures in rw (← z, c.before.before.if1.false) (c.refused-by.ensures ∙ ap (refused_by 0) c.before.nowhere.ensures)
 
 pub answer-of-spec : {M : Type 1} → statement M
 answer-of-spec =

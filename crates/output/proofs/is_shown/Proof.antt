@@ -2,7 +2,7 @@
 use mathlib.Core.Path.{◌≡◌}
 use mathlib.Core.Bool.{true}
 use borrow.Author.Tests.{le-leb, lt-leb, not-true, not-false}
-use Rattle.steps.specs.Model.{isValid}
+use Rattle.steps.specs.Model.{is_valid}
 use Rattle.output.specs.Stream.{shown}
 use Rattle.output.proofs.is_shown.Statement.{statement}
 use Rattle.output.proofs.is_shown.Tie as tie
@@ -11,7 +11,7 @@ is-valid-requires : tie.Need-is-valid-requires
 is-valid-requires c κs = tt
 
 -- the dialect is one
-valid : (c : tie.Else1) → let a = c.before.before.args.c in isValid a.delimiter a.leniencies ≡ true
+valid : (c : tie.Else1) → let a = c.before.before.args.c in is_valid a.delimiter a.leniencies ≡ true
 valid c = rw c.before.is-valid.ensures at (not-false c.before.is-valid.result c.if1.false)
 
 returns : tie.Need-returns

@@ -32,7 +32,7 @@ returns : tie.Need-returns
 returns c = stayed _ _ _ _ _
 
 add-to : tie.Need-overflow-add-to
-add-to c = omega (arith, (able c).taken-room, (start c.before).well-formed)
+add-to c = omega (arith, (able c).taken_room, (start c.before).well_formed)
 
 sub-feed : tie.Need-overflow-sub-feed
 sub-feed c = omega arith
@@ -41,7 +41,7 @@ part-feed-start : tie.Need-slice-bounds-feed-start
 part-feed-start c = omega (arith, (able c).inside.taken_in)
 
 part-feed-end : tie.Need-slice-bounds-feed-end
-part-feed-end c = omega (arith, (able c).taken-room)
+part-feed-end c = omega (arith, (able c).taken_room)
 
 feed-requires : tie.Need-feed-requires
 feed-requires c κs = tt
@@ -62,7 +62,7 @@ returns-3 c =
     let n = (more k).before.part.result in
     let p = (start (more k).before).args.p in
     on-true (inside-by _ _ _ _ _ a.inside)
-    (beyond-grew a.inside a.plain (p.taken + n) (omega arith) a.taken-room c.before.if3.true k.before.feed.ensures.result (rw (← k.is-shown.ensures) c.before.before.before.if2.false) c.behind.ensures)
+    (beyond-grew a.inside a.plain (p.taken + n) (omega arith) a.taken_room c.before.if3.true k.before.feed.ensures.result (rw (← k.is-shown.ensures) c.before.before.before.if2.false) c.behind.ensures)
 
 returns-4 : tie.Need-returns-4
 returns-4 c = stayed _ _ _ _ _

@@ -30,10 +30,10 @@ add-raise : tie.Need-overflow-add-raise
 add-raise c = omega (arith, (start c.before.before.before.before.before.before.before.before).requires.1.roomy.small)
 
 cast-raise : tie.Need-overflow-cast-raise
-cast-raise c = let m = (start c.before.before.before.before.before.before.before.before.before).requires.1 in omega (arith, m.roomy.text-count, m.roomy.small)
+cast-raise c = let m = (start c.before.before.before.before.before.before.before.before.before).requires.1 in omega (arith, m.roomy.text_count, m.roomy.small)
 
 sub-raise : tie.Need-overflow-sub-raise
-sub-raise c = (start c.before.before.before.before.before.before.before.before.before).requires.1.roomy.text-count
+sub-raise c = (start c.before.before.before.before.before.before.before.before.before).requires.1.roomy.text_count
 
 raise-requires : tie.Need-raise-requires
 raise-requires c κs =
@@ -43,10 +43,10 @@ raise-requires c κs =
     ends-raisable s.pre.0 s.pre.1 _ (w.0 false) (w.1 false (enough s.pre.0 s.pre.1 _))
 
 cast-raise-2 : tie.Need-overflow-cast-raise-2
-cast-raise-2 c = let m = (start c.before.before.before.before.before.before.before.before.before.before.before.before.before.before).requires.1 in omega (arith, m.roomy.field-count, m.roomy.few)
+cast-raise-2 c = let m = (start c.before.before.before.before.before.before.before.before.before.before.before.before.before.before).requires.1 in omega (arith, m.roomy.field_count, m.roomy.few)
 
 sub-raise-2 : tie.Need-overflow-sub-raise-2
-sub-raise-2 c = (start c.before.before.before.before.before.before.before.before.before.before.before.before.before.before.before).requires.1.roomy.field-count
+sub-raise-2 c = (start c.before.before.before.before.before.before.before.before.before.before.before.before.before.before.before).requires.1.roomy.field_count
 
 raise-requires-2 : tie.Need-raise-requires-2
 raise-requires-2 c κs =

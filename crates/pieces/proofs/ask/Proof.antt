@@ -2,17 +2,17 @@
 use mathlib.Core.Path.{◌≡◌}
 use mathlib.Core.Bool.{true, cond}
 use borrow.Author.Tests.{eq-eqb, ne_eqb, le-leb, lt-leb, not-true, not-false}
-use Rattle.steps.specs.Model.{isValid}
+use Rattle.steps.specs.Model.{is_valid}
 use Rattle.pieces.proofs.Stands.{so-asked}
-use Rattle.pieces.specs.Asked.{isOpen, cut, settledAnswer, asked}
+use Rattle.pieces.specs.Asked.{is_open, cut, settled_answer, asked}
 use Rattle.pieces.proofs.ask.Statement.{statement}
 use Rattle.pieces.proofs.ask.Tie as tie
 
 -- what the tests on the way leave of the definition: for a dialect, within the file limit, and where a record is open
-valid : (c : tie.Else1) → let a = c.before.before.args.check in isValid a.delimiter a.leniencies ≡ true
+valid : (c : tie.Else1) → let a = c.before.before.args.check in is_valid a.delimiter a.leniencies ≡ true
 valid c = rw c.before.is-valid.ensures at (not-false c.before.is-valid.result c.if1.false)
 
-within : (c : tie.Else2) → let a = c.before.before.before.before.args.check in asked a ≡ cond (isOpen a) (cut a) (settledAnswer a)
+within : (c : tie.Else2) → let a = c.before.before.before.before.args.check in asked a ≡ cond (is_open a) (cut a) (settled_answer a)
 unfolding asked
 within c = rw (valid c.before.before, le-leb _ _ c.if2.false)
 

@@ -9,7 +9,7 @@ use lib.Seq.{take_all}
 use Rattle.state.proofs.Between.{fed-at}
 use Rattle.state.proofs.Jumps.{fed-end}
 use Rattle.pieces.proofs.Stands.{so-fed}
-use Rattle.state.specs.Check.{fed, fedAll}
+use Rattle.state.specs.Check.{fed, fed_all}
 use Rattle.passes.specs.Passes.{Leads}
 use Rattle.state.specs.declared.Check.{Check}
 use Rattle.passes.proofs.Passing.{stays-leads}
@@ -19,8 +19,8 @@ use Rattle.pieces.proofs.feed.Tie as tie
 
 -- one byte more
 module _ (c : Check) (l : List ℕ) (i : ℕ) where
-  one_more : (e : Check) → i < length l → e ≡ fed c (get_or l i 0) → fedAll e (drop (i + 1) l) ≡ fedAll c (drop i l)
-  one_more e h q = ap (λ (x : Check). fedAll x (drop (i + 1) l)) q ∙ fed-at c l i h
+  one_more : (e : Check) → i < length l → e ≡ fed c (get_or l i 0) → fed_all e (drop (i + 1) l) ≡ fed_all c (drop i l)
+  one_more e h q = ap (λ (x : Check). fed_all x (drop (i + 1) l)) q ∙ fed-at c l i h
 
 -- a piece as a part of itself
 whole : (l : List ℕ) → take (length l - 0) l ≡ l
@@ -35,7 +35,7 @@ module _ (c : Check) (l : List ℕ) (i : ℕ) (d : Check) (j : ℕ) where
   behind-none e f = rw (e, f) (stays-leads c l i)
 
 abbrev invariant-loop : tie.invariant-loop
-invariant-loop piece c₀ i₀ c i = (i ≤ length piece) × (fedAll c (drop i piece) ≡ fedAll c₀ piece)
+invariant-loop piece c₀ i₀ c i = (i ≤ length piece) × (fed_all c (drop i piece) ≡ fed_all c₀ piece)
 
 abbrev decreases-loop : tie.decreases-loop
 decreases-loop piece c₀ i₀ c i = length piece - i

@@ -56,7 +56,7 @@ write-table-requires c κs =
     has_room (taken text-test.before.before.before.before.before.before) text-test.if1.false ends-test.if2.false rows-test.if3.false in
     let s = text-test.before.before.before.before.before.before in
     let y =
-    has_room {x = 4294967295} {y = 4294967295} {z = 4294967295} (taken s) (omega (arith, s.well-formed)) (omega (arith, s.well-formed)) (omega (arith, s.well-formed)) in
+    has_room {x = 4294967295} {y = 4294967295} {z = 4294967295} (taken s) (omega (arith, s.well_formed)) (omega (arith, s.well_formed)) (omega (arith, s.well_formed)) in
     ((y.0, y.1), (x.0, (x.1, x.2)))
 
 same_length : tie.Need-same-length

@@ -21,7 +21,7 @@ walk_of c = c.before.before.before.before.before.before
 ample :
     (w : tie.After-walked) → let a = (start w).args in
     Ample true (dialect a.delimiter a.leniencies) a.file.now first a.text.now a.ends.now a.rows.now
-ample w = let h = (start w).requires in ample-first (omega (arith, (start w).well-formed)) h.0.0 h.0.1 h.1.0 h.1.1.0 h.1.1.1
+ample w = let h = (start w).requires in ample-first (omega (arith, (start w).well_formed)) h.0.0 h.0.1 h.1.0 h.1.1.0 h.1.1.1
 
 walked-requires : tie.Need-walked-requires
 walked-requires c κs = search rules

@@ -3,16 +3,16 @@ use Prim.Native.Nat.{◌≤◌}
 use mathlib.Core.Path.{◌≡◌, sym, ◌∙◌}
 use mathlib.Core.Bool.{true, false}
 use borrow.Author.Tests.{not-true, not-false}
-use Rattle.taking.specs.Walk.{insideBy}
+use Rattle.taking.specs.Walk.{inside_by}
 use Rattle.taking.proofs.Growing.{inside-parts}
 use Rattle.room.proofs.Counted.{part-outside, part_none, part-over, part_room}
 use Rattle.room.proofs.part.Statement.{statement}
 use Rattle.room.proofs.part.Tie as tie
 
-outside : (c : tie.Then1) → let a = c.before.before.args in insideBy a.p a.piece a.text a.ends a.rows ≡ false
+outside : (c : tie.Then1) → let a = c.before.before.args in inside_by a.p a.piece a.text a.ends a.rows ≡ false
 outside c = sym c.before.is-inside.ensures ∙ not-true c.before.is-inside.result c.if1.taken
 
-inside : (c : tie.Else1) → let a = c.before.before.args in insideBy a.p a.piece a.text a.ends a.rows ≡ true
+inside : (c : tie.Else1) → let a = c.before.before.args in inside_by a.p a.piece a.text a.ends a.rows ≡ true
 inside c = sym c.before.is-inside.ensures ∙ not-false c.before.is-inside.result c.if1.left
 
 is-inside-requires : tie.Need-is-inside-requires

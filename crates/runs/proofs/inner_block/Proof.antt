@@ -6,18 +6,18 @@ use mathlib.Core.Bool.{Bool, ◌&&◌}
 use lib.Dec.{leb}
 use lib.ListN.{length, drop}
 use Rattle.runs.proofs.Runs.{run-reaches, run-reaches-none}
-use Rattle.runs.specs.Runs.{run, isInner}
+use Rattle.runs.specs.Runs.{run, is_inner}
 use Rattle.runs.proofs.inner_block.Statement.{statement}
 use Rattle.runs.proofs.inner_block.Tie as tie
 
 abbrev invariant-loop : tie.invariant-loop
-invariant-loop s at all₀ j₀ all j = (j ≤ 16) × (all ≡ leb j (run isInner (drop at s)))
+invariant-loop s at all₀ j₀ all j = (j ≤ 16) × (all ≡ leb j (run is_inner (drop at s)))
 
 abbrev decreases-loop : tie.decreases-loop
 decreases-loop s at all₀ j₀ all j = 16 - j
 
 loop-holds : tie.Need-loop-init invariant-loop decreases-loop
-loop-holds c = (omega arith, run-reaches-none isInner _)
+loop-holds c = (omega arith, run-reaches-none is_inner _)
 
 add-is-inner : tie.Need-overflow-add-is-inner invariant-loop decreases-loop
 add-is-inner c = omega (arith, c.before.before.before.requires)
@@ -39,13 +39,13 @@ loop-again c =
     let l = c.before.before.before.loop in
     let a = c.before.before.before.before.before in
     let room : a.args.at + l.j < length a.args.s.now = omega (arith, a.requires) in
-    (omega arith, ap₂ (λ (x y : Bool). x && y) l.invariant.1 c.is-inner.ensures ∙ sym (run-reaches isInner a.args.s.now a.args.at l.j room))
+    (omega arith, ap₂ (λ (x y : Bool). x && y) l.invariant.1 c.is-inner.ensures ∙ sym (run-reaches is_inner a.args.s.now a.args.at l.j room))
 
 returns : tie.Need-returns invariant-loop decreases-loop
 returns c =
     let l = c.before.loop in
     let e : l.j ≡ 16 = omega arith in
-    l.invariant.1 ∙ ap (λ (n : ℕ). leb n (run isInner (drop c.before.before.before.args.at c.before.before.before.args.s.now))) e
+    l.invariant.1 ∙ ap (λ (n : ℕ). leb n (run is_inner (drop c.before.before.before.args.at c.before.before.before.args.s.now))) e
 
 pub inner-block-spec : {M : Type 1} → statement M
 inner-block-spec =

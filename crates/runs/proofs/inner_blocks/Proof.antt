@@ -5,12 +5,12 @@ use mathlib.Core.Path.{sym, ◌∙◌}
 use borrow.Author.Tests.{not-true, not-false}
 use lib.ListN.{length}
 use Rattle.runs.proofs.Runs.{run_none, Blocks, blocks_more, blocks-stop, blocks_end}
-use Rattle.runs.specs.Runs.{isInner}
+use Rattle.runs.specs.Runs.{is_inner}
 use Rattle.runs.proofs.inner_blocks.Statement.{statement}
 use Rattle.runs.proofs.inner_blocks.Tie as tie
 
 abbrev invariant-loop : tie.invariant-loop
-invariant-loop s from i₀ i = Blocks isInner s from i
+invariant-loop s from i₀ i = Blocks is_inner s from i
 
 abbrev decreases-loop : tie.decreases-loop
 decreases-loop s from i₀ i = length s - i
@@ -18,7 +18,7 @@ decreases-loop s from i₀ i = length s - i
 returns : tie.Need-returns invariant-loop decreases-loop
 returns c =
     let a = c.before.before.args in
-    omega (arith, run_none isInner a.s.now a.from c.if1.true)
+    omega (arith, run_none is_inner a.s.now a.from c.if1.true)
 
 loop-holds : tie.Need-loop-init invariant-loop decreases-loop
 loop-holds c = (omega (arith, c.if1.false), omega arith, (omega arith, omega arith))

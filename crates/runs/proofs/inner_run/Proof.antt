@@ -5,12 +5,12 @@ use mathlib.Core.Path.{sym, ◌∙◌}
 use borrow.Author.Tests.{not-true, not-false}
 use lib.ListN.{length, drop, length-drop}
 use Rattle.runs.proofs.Runs.{run-le, Passed, passed-part, passed-more, passed-stops, passed-end}
-use Rattle.runs.specs.Runs.{isInner}
+use Rattle.runs.specs.Runs.{is_inner}
 use Rattle.runs.proofs.inner_run.Statement.{statement}
 use Rattle.runs.proofs.inner_run.Tie as tie
 
 abbrev invariant-loop : tie.invariant-loop
-invariant-loop s from i₀ i = Passed isInner s from i
+invariant-loop s from i₀ i = Passed is_inner s from i
 
 abbrev decreases-loop : tie.decreases-loop
 decreases-loop s from i₀ i = length s - i
@@ -21,7 +21,7 @@ inner-blocks-requires c κs = tt
 add-i : tie.Need-overflow-add-i invariant-loop decreases-loop
 add-i c =
     let a = c.before.before.args in
-    omega (arith, c.inner-blocks.ensures, run-le isInner (drop a.from a.s.now), length-drop a.from a.s.now)
+    omega (arith, c.inner-blocks.ensures, run-le is_inner (drop a.from a.s.now), length-drop a.from a.s.now)
 
 loop-holds : tie.Need-loop-init invariant-loop decreases-loop
 loop-holds c = passed-part _ _ _ _ _ (omega arith, omega arith) (omega (arith, c.inner-blocks.ensures))

@@ -3,13 +3,13 @@ use Prim.Native.Nat.{◌+◌, ◌-◌, ◌≤◌}
 use native.Mathlib.Omega.{arith}
 use mathlib.Core.Path.{◌≡◌}
 use lib.ListN.{length, drop}
-use Rattle.format.specs.Place.{lineFeeds}
+use Rattle.format.specs.Place.{line_feeds}
 use Rattle.runs.proofs.Lines.{feeds-more, feeds-none}
 use Rattle.runs.proofs.line_feeds.Statement.{statement}
 use Rattle.runs.proofs.line_feeds.Tie as tie
 
 abbrev invariant-loop : tie.invariant-loop
-invariant-loop s from feeds₀ k₀ feeds k = (feeds ≤ k) × (feeds + lineFeeds (drop k s) ≡ lineFeeds (drop from s))
+invariant-loop s from feeds₀ k₀ feeds k = (feeds ≤ k) × (feeds + line_feeds (drop k s) ≡ line_feeds (drop from s))
 
 abbrev decreases-loop : tie.decreases-loop
 decreases-loop s from feeds₀ k₀ feeds k = length s - k

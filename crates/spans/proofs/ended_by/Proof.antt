@@ -1,8 +1,8 @@
 -- `spans::ended_by` meets its contract.
 use borrow.Author.Tests.{eq-eqb, ne_eqb}
 use borrow.Author.Rules.{rules}
-use Rattle.spans.proofs.ended_by.Statement.{statement}
-use Rattle.spans.proofs.ended_by.Tie as tie
+use Rattle.spans.proofs.ended-by.Statement.{statement}
+use Rattle.spans.proofs.ended-by.Tie as tie
 
 add-field-on : tie.Need-overflow-add-field-on
 add-field-on c = search rules

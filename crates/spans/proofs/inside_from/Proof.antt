@@ -4,7 +4,7 @@ use mathlib.Core.Path.{ap}
 use native.Mathlib.Omega.{arith}
 use lib.Count.{count_trailing_zeros}
 use lib.ListN.{length, get_or, drop}
-use Rattle.runs.specs.Runs.{run, isInner}
+use Rattle.runs.specs.Runs.{run, is_inner}
 use Rattle.words.specs.Words.{Marks}
 use Rattle.spans.specs.declared.Inside.{Inside}
 use Rattle.spans.specs.Walk.{Between}
@@ -13,7 +13,7 @@ use Rattle.spans.proofs.inside_from.Statement.{statement}
 use Rattle.spans.proofs.inside_from.Tie as tie
 
 abbrev invariant-loop : tie.invariant-loop
-invariant-loop t s at x₀ x = Between s at x × Marks t isInner × ((j : ℕ) → get_or s j 0 < 256) × (length s < 18446744073709551616)
+invariant-loop t s at x₀ x = Between s at x × Marks t is_inner × ((j : ℕ) → get_or s j 0 < 256) × (length s < 18446744073709551616)
 
 abbrev decreases-loop : tie.decreases-loop
 decreases-loop t s at x₀ x = length s - x.end
@@ -30,7 +30,7 @@ inner-blocks-requires c κs = tt
 -- behind whole blocks
 behind-blocks :
     (c : tie.After-run-on invariant-loop decreases-loop)
-    → let a = c.before.before.before.before.before.before.args in let y = c.run_on.result in Between a.s.now a.at y × (run isInner (drop y.end a.s.now) < 16)
+    → let a = c.before.before.before.before.before.before.args in let y = c.run_on.result in Between a.s.now a.at y × (run is_inner (drop y.end a.s.now) < 16)
 behind-blocks c =
     let a = c.before.before.before.before.before.before.args in
     let l = c.before.before.before.before.loop in
@@ -41,7 +41,7 @@ behind-blocks c =
 -- the bytes to the end, where none is marked
 to_end :
     (c : tie.Then2 invariant-loop decreases-loop)
-    → let s = c.before.before.before.before.before.before.before.before.args.s.now in let y = c.before.before.run_on.result in length s - y.end ≤ run isInner (drop y.end s)
+    → let s = c.before.before.before.before.before.before.before.before.args.s.now in let y = c.before.before.run_on.result in length s - y.end ≤ run is_inner (drop y.end s)
 to_end c =
     let a = c.before.before.before.before.before.before.before.before.args in
     let h = c.before.before.before.before.before.before.loop.invariant in
@@ -54,7 +54,7 @@ to_end c =
 to-mark :
     (c : tie.Else2 invariant-loop decreases-loop)
     → let s = c.before.before.before.before.before.before.before.before.args.s.now in let y = c.before.before.run_on.result in let k = count_trailing_zeros 64 c.before.marks-16.result in
-    (y.end + k < length s) × (k < 64) × (k ≤ run isInner (drop y.end s))
+    (y.end + k < length s) × (k < 64) × (k ≤ run is_inner (drop y.end s))
 to-mark c =
     let a = c.before.before.before.before.before.before.before.before.args in
     let h = c.before.before.before.before.before.before.loop.invariant in

@@ -4,24 +4,24 @@ use mathlib.Core.Path.{◌≡◌, refl, sym, ap}
 use native.Mathlib.Omega.{arith}
 use lib.ListN.{length}
 use lib.Count.{count_trailing_zeros}
-use Rattle.runs.specs.Runs.{isInner}
+use Rattle.runs.specs.Runs.{is_inner}
 use Rattle.words.specs.Words.{Marks}
 use Rattle.words.proofs.Words.{block}
 use Rattle.spans.specs.declared.Walk.{Walk}
-use Rattle.spans.specs.Walk.{loneEnds, Walking}
+use Rattle.spans.specs.Walk.{lone_ends, Walking}
 use Rattle.spans.proofs.Passing.{walking_start}
 use Rattle.spans.proofs.Words.{Ground, Reading, sized, Mark, first-mark, no-mark, goes_on}
 use Rattle.spans.proofs.walk_on.Statement.{statement}
 use Rattle.spans.proofs.walk_on.Tie as tie
 
 abbrev invariant-loop2 : tie.invariant-loop2
-invariant-loop2 check alone t inner s at x₀ i e w₀ x w = Reading check t s at x e w × Marks inner isInner × (alone ≡ loneEnds check)
+invariant-loop2 check alone t inner s at x₀ i e w₀ x w = Reading check t s at x e w × Marks inner is_inner × (alone ≡ lone_ends check)
 
 abbrev decreases-loop2 : tie.decreases-loop2
 decreases-loop2 check alone t inner s at x₀ i e w₀ x w = length s - x.at
 
 abbrev invariant-loop : tie.invariant-loop
-invariant-loop check alone t inner s at x₀ x = Walking check s at x × Ground check t s × Marks inner isInner × (alone ≡ loneEnds check)
+invariant-loop check alone t inner s at x₀ x = Walking check s at x × Ground check t s × Marks inner is_inner × (alone ≡ lone_ends check)
 
 abbrev decreases-loop : tie.decreases-loop
 decreases-loop check alone t inner s at x₀ x = length s - x.at
@@ -69,8 +69,8 @@ to-mark c = rw c.placed_at_lem.ensures (at_first c.before.before).walking
 behind-mark : (c : tie.After-at-mark invariant-loop2 decreases-loop2 invariant-loop decreases-loop) → let a = c.before.before.before.before.before.before.before.before.before.before.before.before.args in Walking a.check a.s.now a.at c.at_mark.result
 behind-mark c = c.at_mark.ensures.goes c.before.before.before.before.before.before.before.before.before.before.before.before.args.check refl refl (sym c.before.before.before.before.loop2.invariant.2) c.before.before.before.before.before.before.before.before.before.before.before.before.args.at (to-mark c.before)
 
-at-is : (c : tie.After-placed-at invariant-loop2 decreases-loop2 invariant-loop decreases-loop) → let l = c.before.before.before.loop2 in c.placed_at_lem.result.at ≡ l.x.at + count_trailing_zeros 64 l.w
-at-is c = ap (λ (q : Walk). q.at) c.placed_at_lem.ensures
+at_is : (c : tie.After-placed-at invariant-loop2 decreases-loop2 invariant-loop decreases-loop) → let l = c.before.before.before.loop2 in c.placed_at_lem.result.at ≡ l.x.at + count_trailing_zeros 64 l.w
+at_is c = ap (λ (q : Walk). q.at) c.placed_at_lem.ensures
 
 cast-placed-at : tie.Need-overflow-cast-placed-at invariant-loop2 decreases-loop2 invariant-loop decreases-loop
 cast-placed-at c = let m = at_first c in omega (arith, m.low)
@@ -84,7 +84,7 @@ placed-at-requires c κs = tt
 at-mark-requires : tie.Need-at-mark-requires invariant-loop2 decreases-loop2 invariant-loop decreases-loop
 at-mark-requires c κs =
     let a = c.before.before.before.before.before.before.before.before.before.before.before.args in
-    (c.before.before.before.loop2.invariant.1, sized a.check a.s.now a.at c.placed_at_lem.result (to-mark c) (omega (arith, at-is c, (at_first c.before.before).inside)))
+    (c.before.before.before.loop2.invariant.1, sized a.check a.s.now a.at c.placed_at_lem.result (to-mark c) (omega (arith, at_is c, (at_first c.before.before).inside)))
 
 returns : tie.Need-returns invariant-loop2 decreases-loop2 invariant-loop decreases-loop
 returns c = behind-mark c.before.before.before
@@ -105,7 +105,7 @@ loop2-less : tie.Need-loop2-smaller invariant-loop2 decreases-loop2 invariant-lo
 loop2-less c =
     let within = (behind-mark c.before.before.before.before.before.before).within in
     let on = c.before.before.before.before.before.before.at_mark.ensures.on in
-    let at = at-is c.before.before.before.before.before.before.before in
+    let at = at_is c.before.before.before.before.before.before.before in
     omega (arith, c.before.before.before.if2.false)
 
 loop2-again : tie.Need-loop2-preserved invariant-loop2 decreases-loop2 invariant-loop decreases-loop
@@ -116,7 +116,7 @@ loop2-again c =
     let y = c.before.before.before.before.before.before.before.placed_at_lem.result in
     let z = c.before.before.before.before.before.before.at_mark in
     let on = z.ensures.on in
-    let at = at-is c.before.before.before.before.before.before.before in (
+    let at = at_is c.before.before.before.before.before.before.before in (
       goes_on a.check a.t.now a.s.now a.at l.x e l.w l.invariant.0 (count_trailing_zeros 64 l.w) (z.result.at - y.at) c.shifted.result z.result
           (omega arith) (behind-mark c.before.before.before.before.before.before) c.shifted.ensures,
       l.invariant.1,

@@ -6,12 +6,12 @@ use mathlib.Core.Bool.{true}
 use lib.Dec.{leb}
 use borrow.Author.Tests.{ne_eqb}
 use Rattle.format.specs.Dialect.{delimits}
-use Rattle.steps.specs.Model.{isValid}
+use Rattle.steps.specs.Model.{is_valid}
 use Rattle.steps.proofs.Verdicts.{valid-sum, valid-other}
 use Rattle.state.proofs.is_valid.Statement.{statement}
 use Rattle.state.proofs.is_valid.Tie as tie
 
-of_four : (b k sum : ℕ) → delimits k ≡ true → b ≡ k → leb sum 15 ≡ isValid b sum
+of_four : (b k sum : ℕ) → delimits k ≡ true → b ≡ k → leb sum 15 ≡ is_valid b sum
 of_four b k sum e w = sym (valid-sum b sum (ap delimits w ∙ e))
 
 returns : tie.Need-returns

@@ -1,6 +1,6 @@
 -- `state::one_field` meets its contract.
-use Rattle.state.proofs.one_field.Statement.{statement}
-use Rattle.state.proofs.one_field.Tie as tie
+use Rattle.state.proofs.one-field.Statement.{statement}
+use Rattle.state.proofs.one-field.Tie as tie
 
 plus-requires : tie.Need-plus-requires
 plus-requires c κs = tt

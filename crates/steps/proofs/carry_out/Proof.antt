@@ -4,7 +4,7 @@ use mathlib.Core.Bool.{◌||◌}
 use mathlib.Core.Logic.{⊎_elim}
 use native.Mathlib.Omega.{arith}
 use borrow.Author.Tests.{eq-eqb, ne_eqb, le-leb, lt-leb}
-use Rattle.steps.specs.Steps.{inQuotes, behindCr}
+use Rattle.steps.specs.Steps.{is_in_quotes, is_behind_cr}
 use Rattle.steps.specs.Numbers.{form_of, move_of}
 use Rattle.steps.proofs.Numbers.{past, quotes-at, cr-at, blank-at}
 use Rattle.steps.proofs.carry_out.Statement.{statement}
@@ -29,8 +29,8 @@ returns-4 : tie.Need-returns-4
 unfolding move_of form_of
 returns-4 c = rw (c.before.match.keys3, blank-at, ne_eqb _ _ c.if1.false)
 
-in-quotes : (c : tie.Joined2) → inQuotes (form_of c.before.before.args.form) ≡ c.if2.if3
-in-quotes c =
+in_quotes : (c : tie.Joined2) → is_in_quotes (form_of c.before.before.args.form) ≡ c.if2.if3
+in_quotes c =
     ⊎_elim
     (λ w. rw (quotes-at, w.1, eq-eqb _ _ w.0.taken))
     (λ w. rw (quotes-at, w.1, ne_eqb _ _ w.0.left))
@@ -38,11 +38,11 @@ in-quotes c =
 
 returns-5 : tie.Need-returns-5
 unfolding move_of form_of
-returns-5 c = rw (c.before.before.match.keys4, in-quotes c.before, c.if3.true)
+returns-5 c = rw (c.before.before.match.keys4, in_quotes c.before, c.if3.true)
 
 returns-6 : tie.Need-returns-6
 unfolding move_of form_of
-returns-6 c = rw (c.before.before.match.keys4, in-quotes c.before, c.if3.false)
+returns-6 c = rw (c.before.before.match.keys4, in_quotes c.before, c.if3.false)
 
 returns-7 : tie.Need-returns-7
 unfolding move_of form_of
@@ -56,7 +56,7 @@ returns-9 : tie.Need-returns-9
 unfolding move_of form_of
 returns-9 c = rw c.match.keys7
 
-ends : (c : tie.Joined4) → (behindCr (form_of c.before.before.args.form) || c.before.before.args.lf) ≡ c.if4.if5
+ends : (c : tie.Joined4) → (is_behind_cr (form_of c.before.before.args.form) || c.before.before.args.lf) ≡ c.if4.if5
 ends c =
     ⊎_elim
     (λ w. rw (cr-at, w.1, le-leb _ _ w.0.taken))

@@ -5,9 +5,9 @@ use mathlib.Core.Bool.{Bool, cond, ◌&&◌}
 use mathlib.Core.Logic.{⊎_elim}
 use native.Mathlib.Nat.{le_of_suc-le-suc}
 use native.Mathlib.Omega.{arith}
-use Rattle.format.specs.Dialect.{Dialect, dialect, Class, text, blank, delimiter, quote, CR, LF, forbidden, classOf}
+use Rattle.format.specs.Dialect.{Dialect, dialect, Class, text, blank, delimiter, quote, CR, LF, forbidden, class_of}
 use Rattle.format.proofs.Classes.{delimiter-at, quote-beside, CR-beside, LF-beside, blank-class, printed-class, beyond-class}
-use Rattle.steps.specs.Numbers.{classNumber}
+use Rattle.steps.specs.Numbers.{class_number}
 use Rattle.steps.proofs.class_of.Statement.{statement}
 use Rattle.steps.proofs.class_of.Tie as tie
 
@@ -22,16 +22,16 @@ allows-bytes-requires c κs = tt
 
 -- what a way of the code finds the byte to be
 abbrev Is : tie.Start → Class → Type 0
-Is s x = classOf (dialect s.args.delimiter s.args.leniencies) s.args.b ≡ x
+Is s x = class_of (dialect s.args.delimiter s.args.leniencies) s.args.b ≡ x
 
-said : (s : tie.Start) (x : Class) → Is s x → classNumber x ≡ classNumber (classOf (dialect s.args.delimiter s.args.leniencies) s.args.b)
-said s x e = sym (ap classNumber e)
+said : (s : tie.Start) (x : Class) → Is s x → class_number x ≡ class_number (class_of (dialect s.args.delimiter s.args.leniencies) s.args.b)
+said s x e = sym (ap class_number e)
 
 returns : tie.Need-returns
 returns c = said c.before delimiter (delimiter-at _ _ c.if1.true)
 
 -- the quote, LF and CR
-key : (c : tie.Else1) (k : ℕ) {x : Class} → ((d : Dialect) → (d.delimiterByte ≡ k → ⊥) → classOf d k ≡ x) → c.before.args.b ≡ k → Is c.before x
+key : (c : tie.Else1) (k : ℕ) {x : Class} → ((d : Dialect) → (d.delimiter_byte ≡ k → ⊥) → class_of d k ≡ x) → c.before.args.b ≡ k → Is c.before x
 key c k law e = rw e (law _ (λ q. c.if1.false (e ∙ sym q)))
 
 returns-2 : tie.Need-returns-2

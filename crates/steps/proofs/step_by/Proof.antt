@@ -1,5 +1,5 @@
 -- `steps::step_by` meets its contract.
-use Rattle.steps.specs.Numbers.{stepBy}
+use Rattle.steps.specs.Numbers.{step_by}
 use borrow.Author.Rules.{rules}
 use Rattle.steps.proofs.step_by.Statement.{statement}
 use Rattle.steps.proofs.step_by.Tie as tie
@@ -23,7 +23,7 @@ carry-out-requires : tie.Need-carry-out-requires
 carry-out-requires c κs = search rules
 
 returns : tie.Need-returns
-unfolding stepBy
+unfolding step_by
 returns c =
     let d = c.before.before in
     rw (c.carry-out.ensures, d.before.at-most-six.ensures, d.at-most-six2.ensures)

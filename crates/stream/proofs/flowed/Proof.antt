@@ -25,7 +25,7 @@ abbrev loop-of : tie.After-passed invariant-loop decreases-loop → tie.At-loop 
 loop-of k = k.before.before.before.before.before.before
 
 loop-holds : tie.Need-loop-init invariant-loop decreases-loop
-loop-holds c = grew_none (record { taken_in = omega arith; text_in = omega arith; ends-in = omega arith; rows_in = omega arith })
+loop-holds c = grew_none (record { taken_in = omega arith; text_in = omega arith; ends_in = omega arith; rows_in = omega arith })
 
 passed-requires : tie.Need-passed-requires invariant-loop decreases-loop
 passed-requires c κs = tt

@@ -31,7 +31,7 @@ returns-2 c =
           λ h x.
           let inside = h.inside in
           ends_at d a.file.now a.p h.form h.held a.p.at (a.q - a.p.at) a.q
-          (bare-to d a.file.now a.p.at a.q h.from (omega arith) h.so_far) h.no-lf (e.end-at.ensures.1.1 c.if2.true);
+          (bare-to d a.file.now a.p.at a.q h.from (omega arith) h.so_far) h.no_lf (e.end-at.ensures.1.1 c.if2.true);
     }
 
 shared-slice-read-if3 : tie.Need-shared-slice-read-if3

@@ -5,7 +5,7 @@ use native.Mathlib.Omega.{arith}
 use lib.ListN.{length, get_or}
 use borrow.Author.Tests.{not-false}
 use Rattle.format.specs.Dialect.{dialect}
-use Rattle.runs.specs.Runs.{isInner}
+use Rattle.runs.specs.Runs.{is_inner}
 use Rattle.runs.proofs.Runs.{run-within}
 use Rattle.stride.proofs.Content.{Content, quoted-to, ends_at}
 use borrow.Author.Rules.{rules}
@@ -25,7 +25,7 @@ within c =
     let a = (start c).args in
     let inside = (start c).requires.0 in
     let here = c.before.before.if1.false in
-    run-within isInner a.file.now (a.p.at + 1) c.inner-run.result (omega arith) (omega (arith, c.inner-run.ensures))
+    run-within is_inner a.file.now (a.p.at + 1) c.inner-run.result (omega arith) (omega (arith, c.inner-run.ensures))
 
 -- behind the closing quote
 module _ (c : tie.Else2) where
@@ -57,7 +57,7 @@ inner-run-requires : tie.Need-inner-run-requires
 inner-run-requires c κs = search rules
 
 add-to : tie.Need-overflow-add-to
-add-to c = omega (arith, within c, (start c).well-formed)
+add-to c = omega (arith, within c, (start c).well_formed)
 
 closes-requires : tie.Need-closes-requires
 closes-requires c κs = search rules
@@ -69,7 +69,7 @@ returns-2 : tie.Need-returns-2
 returns-2 c = record { further = λ h. c.no-field2.ensures.0; ends = λ h x. absurd (omega (arith, c.no-field2.ensures.1)) }
 
 add-e : tie.Need-overflow-add-e
-add-e c = omega (arith, more c, (start (run_of c)).well-formed)
+add-e c = omega (arith, more c, (start (run_of c)).well_formed)
 
 end-at-requires : tie.Need-end-at-requires
 end-at-requires c κs = more c
@@ -81,7 +81,7 @@ returns-3 : tie.Need-returns-3
 returns-3 c = record { further = λ h. c.no-field3.ensures.0; ends = λ h x. absurd (omega (arith, c.no-field3.ensures.1)) }
 
 add-t11 : tie.Need-overflow-add-t11
-add-t11 c = omega (arith, c.before.end-at.ensures.0, more c.before.before, (start (run_of c.before.before)).well-formed)
+add-t11 c = omega (arith, c.before.end-at.ensures.0, more c.before.before, (start (run_of c.before.before)).well_formed)
 
 returns-4 : tie.Need-returns-4
 returns-4 c =
@@ -93,7 +93,7 @@ returns-4 c =
     let same = r.before.before.if1.left in
     record {
       further = λ h. omega (arith, same);
-      ends = λ h x. ends_at d a.file.now a.p h.form h.held (a.p.at + 1) (z - (a.p.at + 1)) (z + 1) (content e) h.no-lf (c.before.end-at.ensures.1.1 c.if3.false);
+      ends = λ h x. ends_at d a.file.now a.p h.form h.held (a.p.at + 1) (z - (a.p.at + 1)) (z + 1) (content e) h.no_lf (c.before.end-at.ensures.1.1 c.if3.false);
     }
 
 pub quoted-field-spec : {M : Type 1} → statement M

@@ -8,10 +8,10 @@ use lib.ListN.{length}
 use borrow.Author.Tests.{lt-ltb}
 use Rattle.format.specs.Dialect.{dialect}
 use Rattle.steps.specs.declared.Stepped.{Stepped}
-use Rattle.steps.specs.Numbers.{actOf}
+use Rattle.steps.specs.Numbers.{act_of}
 use Rattle.steps.proofs.Acts.{act-back}
 use Rattle.fill.proofs.Grown.{wrote_none}
-use Rattle.stride.proofs.Walk.{Does, goes, ends-here, end-put, end-moves, end_fits, put-wrote, put-fits, hold-wrote, stops}
+use Rattle.stride.proofs.Walk.{Does, goes, ends-here, end-put, end-moves, end-fits, put-wrote, put-fits, hold-wrote, stops}
 use borrow.Author.Rules.{rules}
 use Rattle.stride.proofs.take_byte.Statement.{statement}
 use Rattle.stride.proofs.take_byte.Tie as tie
@@ -27,8 +27,8 @@ inside l = omega (arith, l.before.before.if1.false)
 -- what the code's answer says of the byte
 does :
     (l : tie.After-step) {s : Stepped} → l.step.result ≡ s → let a = (start l).args in
-    Does (dialect a.delimiter a.leniencies) a.file.now a.p (actOf s)
-does l e = sym (act-back _ _ _) ∙ ap actOf (sym l.step.ensures ∙ e)
+    Does (dialect a.delimiter a.leniencies) a.file.now a.p (act_of s)
+does l e = sym (act-back _ _ _) ∙ ap act_of (sym l.step.ensures ∙ e)
 
 returns : tie.Need-returns
 returns c = (λ w. wrote_none, λ w m n. absurd (omega (arith, c.if1.true)))
@@ -143,7 +143,7 @@ returns-7 c =
     let d = dialect a.delimiter a.leniencies in
     let x = ends-here d a.file.now a.p (inside l) _ (does l k.before.before.before.enum-told2.given.1) {row = false} refl in
     let q = k.put-end.ensures in
-    (λ w. end-put a.p (a.p.at + 1) false a.text.now a.ends.now a.rows.now x q.0 q.1.0 q.1.1, λ w m n. end-moves a.p (a.p.at + 1) false (omega arith) (end_fits x m) q.0)
+    (λ w. end-put a.p (a.p.at + 1) false a.text.now a.ends.now a.rows.now x q.0 q.1.0 q.1.1, λ w m n. end-moves a.p (a.p.at + 1) false (omega arith) (end-fits x m) q.0)
 
 same-length-4 : tie.Need-same-length-4
 same-length-4 c = search rules
@@ -159,7 +159,7 @@ returns-8 c =
     let d = dialect a.delimiter a.leniencies in
     let x = ends-here d a.file.now a.p (inside l) _ (does l k.before.before.before.enum-told3.given.1) {row = true} refl in
     let q = k.put-end2.ensures in
-    (λ w. end-put a.p (a.p.at + 1) true a.text.now a.ends.now a.rows.now x q.0 q.1.0 q.1.1, λ w m n. end-moves a.p (a.p.at + 1) true (omega arith) (end_fits x m) q.0)
+    (λ w. end-put a.p (a.p.at + 1) true a.text.now a.ends.now a.rows.now x q.0 q.1.0 q.1.1, λ w m n. end-moves a.p (a.p.at + 1) true (omega arith) (end-fits x m) q.0)
 
 pub take-byte-spec : {M : Type 1} → statement M
 take-byte-spec =

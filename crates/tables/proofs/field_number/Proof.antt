@@ -16,13 +16,13 @@ begin k = k.before.before.before.before.before.before.before
 formed : (k : tie.After-struct-known2) → WellFormed (begin k).args.text.now (begin k).args.ends.now (begin k).args.rows.now
 formed k =
     let e = k.before.before in
-    e.before.is-well-formed.ensures.if-true (not-false e.before.is-well-formed.result e.if1.false)
+    e.before.is-well-formed.ensures.if_true (not-false e.before.is-well-formed.result e.if1.false)
 
 is-well-formed-requires : tie.Need-is-well-formed-requires
 is-well-formed-requires c κs = search rules
 
 returns : tie.Need-returns
-returns c = Numbered.absent (malformed (c.before.is-well-formed.ensures.if-false (not-true c.before.is-well-formed.result c.if1.true)))
+returns c = Numbered.absent (malformed (c.before.is-well-formed.ensures.if_false (not-true c.before.is-well-formed.result c.if1.true)))
 
 cast-r : tie.Need-overflow-cast-r
 cast-r c = search rules

@@ -17,7 +17,7 @@ abbrev begin : tie.Else1 → tie.Start
 begin e = e.before.before.before.before.before.before
 
 formed : (e : tie.Else1) → WellFormed (begin e).args.text.now (begin e).args.ends.now (begin e).args.rows.now
-formed e = e.before.is-well-formed.ensures.if-true (not-false e.before.is-well-formed.result e.if1.false)
+formed e = e.before.is-well-formed.ensures.if_true (not-false e.before.is-well-formed.result e.if1.false)
 
 some : (e : tie.Else2) → 0 < length (begin e.before).args.rows.now
 some e = omega arith
@@ -26,7 +26,7 @@ is-well-formed-requires : tie.Need-is-well-formed-requires
 is-well-formed-requires c κs = search rules
 
 returns : tie.Need-returns
-returns c = malformed (c.before.is-well-formed.ensures.if-false (not-true c.before.is-well-formed.result c.if1.true))
+returns c = malformed (c.before.is-well-formed.ensures.if_false (not-true c.before.is-well-formed.result c.if1.true))
 
 returns-2 : tie.Need-returns-2
 returns-2 c = lacks-records (formed c.before) c.if2.true

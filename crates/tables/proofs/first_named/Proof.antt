@@ -28,7 +28,7 @@ returns c =
     let p = c.before.before in
     record {
       none_before = p.before.before.loop.invariant;
-      here = λ h. sym p.part_at.ensures ∙ c.before.same.ensures.if-true c.if1.true;
+      here = λ h. sym p.part_at.ensures ∙ c.before.same.ensures.if_true c.if1.true;
     }
 
 add-k : tie.Need-overflow-add-k invariant-loop decreases-loop
@@ -40,7 +40,7 @@ loop-less c = omega arith
 loop-again : tie.Need-loop-preserved invariant-loop decreases-loop
 loop-again c =
     let p = c.before.before in
-    below_more _ _ p.before.before.loop.invariant (λ e. c.before.same.ensures.if-false c.if1.false (p.part_at.ensures ∙ e))
+    below_more _ _ p.before.before.loop.invariant (λ e. c.before.same.ensures.if_false c.if1.false (p.part_at.ensures ∙ e))
 
 returns-2 : tie.Need-returns-2 invariant-loop decreases-loop
 returns-2 c = record { none_before = c.before.loop.invariant; here = λ h. absurd (omega arith) }

@@ -46,7 +46,7 @@ loop-again c =
     let p = c.before.before in (
       omega arith,
       below_more _ _ p.before.before.loop.invariant.1
-          (λ e. c.before.same.ensures.if-false c.if1.false (p.part-at2.ensures ∙ e)),
+          (λ e. c.before.same.ensures.if_false c.if1.false (p.part-at2.ensures ∙ e)),
     )
 
 add-later : tie.Need-overflow-add-later invariant-loop decreases-loop invariant-later decreases-later
@@ -68,7 +68,7 @@ returns-2 : tie.Need-returns-2 invariant-loop decreases-loop invariant-later dec
 returns-2 c =
     let p = c.before.before in
     let o = p.before.before in
-    let e = sym p.part-at2.ensures ∙ c.before.same.ensures.if-true c.if1.true ∙ o.before.part_at.ensures in
+    let e = sym p.part-at2.ensures ∙ c.before.same.ensures.if_true c.if1.true ∙ o.before.part_at.ensures in
     record {
       none_before = o.before.before.before.later.invariant;
       here = λ h. (o.loop.earlier, p.before.loop-test.true, e);

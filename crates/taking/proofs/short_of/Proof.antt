@@ -9,8 +9,8 @@ use Rattle.taking.proofs.short_of.Tie as tie
 text_in : (c : tie.Else1) → let a = c.before.before.before.before.args in TextIn a.p a.d a.text a.ends a.rows
 text_in c = let b = c.before in omega (arith, c.if1.false, b.number.ensures, b.before.before.minus.ensures)
 
-ends-in : (c : tie.Else2) → let a = c.before.before.before.before.before.before.before.args in EndsIn a.p a.d a.text a.ends a.rows
-ends-in c = let b = c.before in omega (arith, c.if2.false, b.number2.ensures, b.before.minus2.ensures)
+ends_in : (c : tie.Else2) → let a = c.before.before.before.before.before.before.before.args in EndsIn a.p a.d a.text a.ends a.rows
+ends_in c = let b = c.before in omega (arith, c.if2.false, b.number2.ensures, b.before.minus2.ensures)
 
 minus-requires : tie.Need-minus-requires
 minus-requires c κs = tt
@@ -53,14 +53,14 @@ returns-3 c =
     let b = c.before in
     let e = b.before.before in
     let a = e.before.before.before.before.before.before.before.args in
-    short-rows a.p a.d a.text a.ends a.rows (text_in e.before.before.before) (ends-in e) (omega (arith, c.if3.true, b.number3.ensures, b.before.minus3.ensures))
+    short-rows a.p a.d a.text a.ends a.rows (text_in e.before.before.before) (ends_in e) (omega (arith, c.if3.true, b.number3.ensures, b.before.minus3.ensures))
 
 returns-4 : tie.Need-returns-4
 returns-4 c =
     let b = c.before in
     let e = b.before.before in
     let a = e.before.before.before.before.before.before.before.args in
-    short_none a.p a.d a.text a.ends a.rows (text_in e.before.before.before) (ends-in e) (omega (arith, c.if3.false, b.number3.ensures, b.before.minus3.ensures))
+    short_none a.p a.d a.text a.ends a.rows (text_in e.before.before.before) (ends_in e) (omega (arith, c.if3.false, b.number3.ensures, b.before.minus3.ensures))
 
 pub short-of-spec : {M : Type 1} → statement M
 short-of-spec =

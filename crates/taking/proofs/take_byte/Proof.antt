@@ -8,7 +8,7 @@ use lib.ListN.{length, get_or}
 use Rattle.state.specs.Check.{fed}
 use Rattle.output.specs.Stream.{is_over, shown}
 use Rattle.taking.specs.declared.Flow.{Flow}
-use Rattle.taking.specs.Walk.{Inside, insideBy}
+use Rattle.taking.specs.Walk.{Inside, inside_by}
 use Rattle.format.proofs.Tests.{neither, on-true}
 use Rattle.taking.proofs.Growing.{by-inside, at-end-grew, ended-took, shown-took, put-room, put-took, stick-took}
 use borrow.Author.Rules.{rules}
@@ -29,12 +29,12 @@ abbrev shown_of : tie.After-short-of → tie.After-is-shown
 shown_of k = k.before.before.before
 
 -- the test, by the lengths
-outside : (c : tie.Then1) → let a = (start c.before).args in insideBy a.p (length a.piece.now) (length a.text.now) (length a.ends.now) (length a.rows.now) ≡ false
+outside : (c : tie.Then1) → let a = (start c.before).args in inside_by a.p (length a.piece.now) (length a.text.now) (length a.ends.now) (length a.rows.now) ≡ false
 outside c = sym c.before.is-inside.ensures ∙ not-true c.before.is-inside.result c.if1.true
 
 -- the place lies inside
 module _ (k : tie.After-is-at-end) where
-  within : let a = (start (inside_of k)).args in insideBy a.p (length a.piece.now) (length a.text.now) (length a.ends.now) (length a.rows.now) ≡ true
+  within : let a = (start (inside_of k)).args in inside_by a.p (length a.piece.now) (length a.text.now) (length a.ends.now) (length a.rows.now) ≡ true
   within = sym (inside_of k).is-inside.ensures ∙ not-false (inside_of k).is-inside.result k.before.if1.false
 
   inside : let a = (start (inside_of k)).args in Inside a.p a.piece.now a.text.now a.ends.now a.rows.now
@@ -52,8 +52,8 @@ module _ (k : tie.After-is-shown) where
   open-yet : is_over (start (inside_of (end_of k))).args.p.state ≡ false
   open-yet = (more k.before.before.before).1
 
-  behind-byte : let a = (start (inside_of (end_of k))).args in k.before.take.result ≡ fed a.p.state.check (get_or a.piece.now a.p.taken 0)
-  behind-byte = k.before.take.ensures
+  behind_byte : let a = (start (inside_of (end_of k))).args in k.before.take.result ≡ fed a.p.state.check (get_or a.piece.now a.p.taken 0)
+  behind_byte = k.before.take.ensures
 
 -- its output, and the buffer that is short of it
 module _ (k : tie.After-short-of) where
@@ -61,13 +61,13 @@ module _ (k : tie.After-short-of) where
   p = (start (inside_of (end_of (shown_of k)))).args.p
 
   hidden : let a = (start (inside_of (end_of (shown_of k)))).args in shown (fed p.state.check (get_or a.piece.now p.taken 0)) ≡ false
-  hidden = rw (behind-byte (shown_of k)) at (sym (shown_of k).is-shown.ensures ∙ k.before.before.if3.left)
+  hidden = rw (behind_byte (shown_of k)) at (sym (shown_of k).is-shown.ensures ∙ k.before.before.if3.left)
 
 is-inside-requires : tie.Need-is-inside-requires
 is-inside-requires c κs = tt
 
 returns : tie.Need-returns
-returns c = (λ e. absurd (true≢false (sym e ∙ outside c)), λ e. record { flow = refl; text-stays = refl; ends_stay = refl; rows_stay = refl })
+returns c = (λ e. absurd (true≢false (sym e ∙ outside c)), λ e. record { flow = refl; text_stays = refl; ends_stay = refl; rows_stay = refl })
 
 is-at-end-requires : tie.Need-is-at-end-requires
 is-at-end-requires c κs = tt
@@ -84,7 +84,7 @@ shared-slice-read-b : tie.Need-shared-slice-read-b
 shared-slice-read-b c = (more c.before).0
 
 add-next : tie.Need-overflow-add-next
-add-next c = omega (arith, (start (inside_of c.before.before)).well-formed, (more c.before).0)
+add-next c = omega (arith, (start (inside_of c.before.before)).well_formed, (more c.before).0)
 
 take-requires : tie.Need-take-requires
 take-requires c κs = tt
@@ -99,7 +99,7 @@ returns-3 : tie.Need-returns-3
 returns-3 c =
     let k = c.before.before in
     on-true (within (end_of k))
-    (shown-took (inside (end_of k)) (left-yet k) (open-yet k) (behind-byte k) (sym k.is-shown.ensures ∙ c.before.if3.true) c.behind.ensures)
+    (shown-took (inside (end_of k)) (left-yet k) (open-yet k) (behind_byte k) (sym k.is-shown.ensures ∙ c.before.if3.true) c.behind.ensures)
 
 due-by-requires : tie.Need-due-by-requires
 due-by-requires c κs = tt
@@ -121,13 +121,13 @@ returns-4 c =
     let w = c.before.before.stick.ensures in
     let s = shown_of k in
     on-true (within (end_of s))
-    (stick-took (inside (end_of s)) (left-yet s) (open-yet s) (hidden k) (behind-byte s) k.before.due-by.ensures.0 k.short-of.ensures c.before.before.before.before.if4.true w.0 w.1)
+    (stick-took (inside (end_of s)) (left-yet s) (open-yet s) (hidden k) (behind_byte s) k.before.due-by.ensures.0 k.short-of.ensures c.before.before.before.before.if4.true w.0 w.1)
 
 put-due-requires : tie.Need-put-due-requires
 put-due-requires c κs =
     let k = c.before.before.before.before in
     let s = shown_of k in
-    put-room (inside (end_of s)) (left-yet s) (open-yet s) (hidden k) (behind-byte s) k.before.due-by.ensures.0 k.short-of.ensures c.before.before.before.if4.false
+    put-room (inside (end_of s)) (left-yet s) (open-yet s) (hidden k) (behind_byte s) k.before.due-by.ensures.0 k.short-of.ensures c.before.before.before.if4.false
 
 same-length-2 : tie.Need-same-length-2
 same-length-2 c = search rules
@@ -144,7 +144,7 @@ returns-5 c =
     let w = c.before.before.before.before.before.before.put-due.ensures in
     let s = shown_of k in
     on-true (within (end_of s))
-    (put-took (inside (end_of s)) (left-yet s) (open-yet s) (hidden k) (behind-byte s) k.before.due-by.ensures.0 k.short-of.ensures c.before.before.before.before.before.before.before.before.before.before.if4.false w.0 w.1.0 w.1.1.0 w.1.1.1)
+    (put-took (inside (end_of s)) (left-yet s) (open-yet s) (hidden k) (behind_byte s) k.before.due-by.ensures.0 k.short-of.ensures c.before.before.before.before.before.before.before.before.before.before.if4.false w.0 w.1.0 w.1.1.0 w.1.1.1)
 
 pub take-byte-spec : {M : Type 1} → statement M
 take-byte-spec =

@@ -8,7 +8,7 @@ use lib.ListN.{length, take, drop}
 use lib.Count.{count_trailing_zeros}
 use Rattle.format.specs.Dialect.{dialect}
 use Rattle.words.proofs.Words.{Marked}
-use Rattle.fill.specs.Put.{end_of, fieldFits}
+use Rattle.fill.specs.Put.{end_of, field_fits}
 use Rattle.fill.proofs.Grown.{wrote_then, wrote-sizes}
 use Rattle.fill.proofs.Put.{field_room}
 use Rattle.stride.specs.Stride.{Ends, Plain}
@@ -52,7 +52,7 @@ base : (o : tie.At-loop invariant-loop2 decreases-loop2 invariant-loop decreases
 base o =
     let s = start o in
     let known = o.before.before.before.before.before.before.shared-slice-known.given in
-    record { stops = s.pre.0; bytes = λ j. omega (arith, known j); no-lf = (begun o.before).2 }
+    record { stops = s.pre.0; bytes = λ j. omega (arith, known j); no_lf = (begun o.before).2 }
 
 -- the first mark
 module _ (c : tie.In-loop2 invariant-loop2 decreases-loop2 invariant-loop decreases-loop) where
@@ -87,23 +87,23 @@ module _ (k : tie.After-put-field invariant-loop2 decreases-loop2 invariant-loop
 
 -- where it has moved, a field ended
 module _ (c : tie.Else2 invariant-loop2 decreases-loop2 invariant-loop decreases-loop) where
-  abbrev put-at : tie.After-put-field invariant-loop2 decreases-loop2 invariant-loop decreases-loop
-  put-at = put_of c.before
+  abbrev put_at : tie.After-put-field invariant-loop2 decreases-loop2 invariant-loop decreases-loop
+  put_at = put_of c.before
 
-  further : mark (turn put-at) < (field_of put-at).field_at.result.next
-  further = (field_of put-at).field_at.ensures.further (stop (turn put-at)).1
+  further : mark (turn put_at) < (field_of put_at).field_at.result.next
+  further = (field_of put_at).field_at.ensures.further (stop (turn put_at)).1
 
   ended :
-      let a = (start (outer (turn put-at).before)).args in let x = (field_of put-at).field_at.result in let h = (turn put-at).before.loop2.h in
+      let a = (start (outer (turn put_at).before)).args in let x = (field_of put_at).field_at.result in let h = (turn put_at).before.loop2.h in
       Ends (dialect a.delimiter a.leniencies) a.file.now h (take (x.to - x.from) (drop x.from a.file.now)) x.next x.row (end_of h x)
   ended =
-      let t = turn put-at in
+      let t = turn put_at in
       let l = t.before.loop2 in
-      let x = (field_of put-at).field_at.result in
+      let x = (field_of put_at).field_at.result in
       let file = (start (outer t.before)).args.file.now in
       let from = (stop t).1.from in
-      let y = moved-fits (fieldFits l.h x (length file) (length l.text) (length l.ends) (length l.rows)) l.h x.next (end_of l.h x) x.row put-at.put-field.ensures.0 (omega (arith, further, from)) c.if2.false in
-      (field_of put-at).field_at.ensures.ends (stop t).1 (field_room l.h x (length file) (length l.text) (length l.ends) (length l.rows) y).order
+      let y = moved-fits (field_fits l.h x (length file) (length l.text) (length l.ends) (length l.rows)) l.h x.next (end_of l.h x) x.row put_at.put-field.ensures.0 (omega (arith, further, from)) c.if2.false in
+      (field_of put_at).field_at.ensures.ends (stop t).1 (field_room l.h x (length file) (length l.text) (length l.ends) (length l.rows) y).order
 
 begins-requires : tie.Need-begins-requires invariant-loop2 decreases-loop2 invariant-loop decreases-loop
 begins-requires c κs = tt
@@ -190,7 +190,7 @@ loop2-again c =
     let x = (field_of k).field_at.result in
     let on = further c.before in
     let file = (start (outer t.before)).args.file.now in
-    let y = fieldFits l.h x (length file) (length l.text) (length l.ends) (length l.rows) in
+    let y = field_fits l.h x (length file) (length l.text) (length l.ends) (length l.rows) in
     let z = start-again y l.h x.next (end_of l.h x) x.row e.0 v.0.form v.0.held in
     let end = t.before.before.before.block-end.result in (
       fields-next (λ w. wrote_then (v.0.wrote w) (field_put l.h x l.text l.ends l.rows (field-ends k) e.0 e.1.0 e.1.1.0 e.1.1.1)) c.before.if2.false (ended c.before).inside z.0 z.1,

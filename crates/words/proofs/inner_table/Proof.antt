@@ -2,13 +2,13 @@
 use Prim.Native.Nat.{◌-◌}
 use mathlib.Core.Path.{refl}
 use native.Mathlib.Omega.{arith}
-use Rattle.runs.specs.Runs.{isInner}
+use Rattle.runs.specs.Runs.{is_inner}
 use Rattle.words.proofs.Words.{MarkedBut, marked_more, marked_all}
 use Rattle.words.proofs.inner_table.Statement.{statement}
 use Rattle.words.proofs.inner_table.Tie as tie
 
 abbrev invariant-loop : tie.invariant-loop
-invariant-loop t₀ i₀ t i = MarkedBut isInner i 256 t
+invariant-loop t₀ i₀ t i = MarkedBut is_inner i 256 t
 
 abbrev decreases-loop : tie.decreases-loop
 decreases-loop t₀ i₀ t i = 256 - i
@@ -34,10 +34,10 @@ loop-less c = omega arith
 loop-again : tie.Need-loop-preserved invariant-loop decreases-loop
 loop-again c =
     let l = c.before.before in
-    marked_more isInner l.loop.i 256 l.loop.t _ l.loop.invariant (omega arith) (rw c.is-inner.ensures)
+    marked_more is_inner l.loop.i 256 l.loop.t _ l.loop.invariant (omega arith) (rw c.is-inner.ensures)
 
 returns : tie.Need-returns invariant-loop decreases-loop
-returns c = let l = c.before.loop in marked_all isInner l.i 256 l.t l.invariant (omega arith)
+returns c = let l = c.before.loop in marked_all is_inner l.i 256 l.t l.invariant (omega arith)
 
 pub inner-table-spec : {M : Type 1} → statement M
 inner-table-spec =

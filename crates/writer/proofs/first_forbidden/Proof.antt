@@ -7,8 +7,8 @@ use mathlib.Core.List.{◌∷◌}
 use lib.ListN.{length, drop, get_or, drop_of_length-le}
 use lib.Seq.{drop-cons}
 use Rattle.format.specs.Table.{Bytes}
-use Rattle.format.specs.Dialect.{strict, classOf}
-use Rattle.steps.specs.Numbers.{classNumber}
+use Rattle.format.specs.Dialect.{strict, class_of}
+use Rattle.steps.specs.Numbers.{class_number}
 use Rattle.steps.proofs.Numbers.{forbidden-number}
 use Rattle.tables.specs.Seek.{Sought}
 use Rattle.tables.proofs.Seeking.{Further, begin, found, nowhere, pass}
@@ -21,11 +21,11 @@ module _ (f : Bytes) (i : ℕ) where
   ahead : i < length f → drop i f ≡ get_or f i 0 ∷ drop (i + 1) f
   ahead h = rw add-one (drop-cons f i 0 h)
 
-  stops : {n : ℕ} → Further Forbidden f i (drop i f) → i < length f → n ≡ classNumber (classOf strict (get_or f i 0)) → n ≡ 6 → Sought Forbidden f i
+  stops : {n : ℕ} → Further Forbidden f i (drop i f) → i < length f → n ≡ class_number (class_of strict (get_or f i 0)) → n ≡ 6 → Sought Forbidden f i
   stops g h e q = found Forbidden f i (get_or f i 0) (drop (i + 1) f) (subst (Further Forbidden f i) (ahead h) g) (forbidden-number _ (sym e ∙ q))
 
   goes_on :
-      {n : ℕ} → Further Forbidden f i (drop i f) → i < length f → n ≡ classNumber (classOf strict (get_or f i 0)) → (n ≡ 6 → ⊥)
+      {n : ℕ} → Further Forbidden f i (drop i f) → i < length f → n ≡ class_number (class_of strict (get_or f i 0)) → (n ≡ 6 → ⊥)
       → Further Forbidden f (i + 1) (drop (i + 1) f)
   goes_on g h e q = pass Forbidden f i (get_or f i 0) (drop (i + 1) f) (subst (Further Forbidden f i) (ahead h) g) (λ z. q (e ∙ rw z))
 

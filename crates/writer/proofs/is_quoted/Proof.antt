@@ -7,28 +7,28 @@ use lib.ListN.{length, get_or}
 use lib.Seq.{slice}
 use Rattle.format.specs.Table.{Bytes}
 use Rattle.format.specs.Dialect.{strict}
-use Rattle.format.specs.WrittenForms.{isSpecial, holdsSpecial}
+use Rattle.format.specs.WrittenForms.{is_special, holds_special}
 use Rattle.format.proofs.Rfc.{strict-needs}
 use Rattle.format.proofs.Lines.{special-holds, ordinary-holds, nothing-holds}
 use Rattle.writer.specs.Form.{quotes}
-use Rattle.writer.proofs.Content.{byte_at, at-end}
+use Rattle.writer.proofs.Content.{byte_at, at_end}
 use borrow.Author.Rules.{rules}
 use Rattle.writer.proofs.is_quoted.Statement.{statement}
 use Rattle.writer.proofs.is_quoted.Tie as tie
 
 -- the answer is whether a special byte is still to come
 abbrev Ahead : Bytes → ℕ → Bool → ℕ → Type 0
-Ahead text end answer i = answer ≡ holdsSpecial strict (slice i end text)
+Ahead text end answer i = answer ≡ holds_special strict (slice i end text)
 
 module _ (text : Bytes) (end i : ℕ) (answer : Bool) (k : end ≤ length text) (a : Ahead text end answer i) where
-  by-special : i < end → {r : Bool} → r ≡ isSpecial strict (get_or text i 0) → r ≡ true → true ≡ answer
+  by-special : i < end → {r : Bool} → r ≡ is_special strict (get_or text i 0) → r ≡ true → true ≡ answer
   by-special h e q = sym (a ∙ rw (byte_at text i end h k) (special-holds strict (get_or text i 0) (slice (i + 1) end text) (sym e ∙ q)))
 
-  by-other : i < end → {r : Bool} → r ≡ isSpecial strict (get_or text i 0) → r ≡ false → Ahead text end answer (i + 1)
+  by-other : i < end → {r : Bool} → r ≡ is_special strict (get_or text i 0) → r ≡ false → Ahead text end answer (i + 1)
   by-other h e q = a ∙ rw (byte_at text i end h k) (ordinary-holds strict (get_or text i 0) (slice (i + 1) end text) (sym e ∙ q))
 
   by-none : i ≤ end → end ≤ i → false ≡ answer
-  by-none h j = sym (a ∙ rw (at-end text i end h j) (nothing-holds strict))
+  by-none h j = sym (a ∙ rw (at_end text i end h j) (nothing-holds strict))
 
 abbrev invariant-loop : tie.invariant-loop
 invariant-loop text from end full i₀ i = (i ≤ end) × Ahead text end (quotes full (slice from end text)) i

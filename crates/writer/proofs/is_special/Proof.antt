@@ -4,18 +4,18 @@ use mathlib.Core.Path.{◌≡◌, ◌∙◌}
 use mathlib.Core.Bool.{◌&&◌}
 use lib.Dec.{leb}
 use borrow.Author.Tests.{le-leb, lt-leb}
-use Rattle.format.specs.Dialect.{strict, classOf}
-use Rattle.format.specs.WrittenForms.{isSpecial}
+use Rattle.format.specs.Dialect.{strict, class_of}
+use Rattle.format.specs.WrittenForms.{is_special}
 use Rattle.format.proofs.Classes.{special-class}
-use Rattle.steps.specs.Numbers.{classNumber}
+use Rattle.steps.specs.Numbers.{class_number}
 use Rattle.steps.proofs.Numbers.{special-number}
 use borrow.Author.Rules.{rules}
 use Rattle.writer.proofs.is_special.Statement.{statement}
 use Rattle.writer.proofs.is_special.Tie as tie
 
 -- the classes of special bytes are numbered together
-by_number : (b : ℕ) {n : ℕ} → n ≡ classNumber (classOf strict b) → isSpecial strict b ≡ (leb 2 n && leb n 5)
-by_number b e = rw e (special-class strict b ∙ special-number (classOf strict b))
+by_number : (b : ℕ) {n : ℕ} → n ≡ class_number (class_of strict b) → is_special strict b ≡ (leb 2 n && leb n 5)
+by_number b e = rw e (special-class strict b ∙ special-number (class_of strict b))
 
 class-of-requires : tie.Need-class-of-requires
 class-of-requires c κs = search rules

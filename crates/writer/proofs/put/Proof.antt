@@ -5,17 +5,17 @@ use mathlib.Core.Path.{◌≡◌}
 use lib.ListN.{length, length-set}
 use Rattle.format.specs.Dialect.{strict}
 use Rattle.format.specs.Memory.{table_of}
-use Rattle.format.specs.WrittenForms.{tableBy}
+use Rattle.format.specs.WrittenForms.{table_by}
 use Rattle.format.specs.Filling.{over}
 use Rattle.format.proofs.Filling.{same_size}
-use Rattle.writer.specs.Form.{formIn}
+use Rattle.writer.specs.Form.{form_in}
 use Rattle.writer.proofs.Walking.{row_in, field_in, Writing, writing, written, field_room, ends-ahead, goes-on-ahead, writes_end, writes_more}
 use Rattle.writer.proofs.put.Statement.{statement}
 use Rattle.writer.proofs.put.Tie as tie
 
 abbrev invariant-loop : tie.invariant-loop
 invariant-loop text ends rows full out₀ k₀ r₀ from₀ at₀ count out k r from at =
-    Writing full text ends rows (over (tableBy (formIn full) strict (table_of text ends rows)) out₀) k r from out at
+    Writing full text ends rows (over (table_by (form_in full) strict (table_of text ends rows)) out₀) k r from out at
 
 abbrev decreases-loop : tie.decreases-loop
 decreases-loop text ends rows full out₀ k₀ r₀ from₀ at₀ count out k r from at = length ends - k

@@ -7,7 +7,7 @@ use lib.Seq.{length-sets, slice}
 use borrow.Author.Tests.{not-true, not-false}
 use Rattle.format.specs.Table.{Content}
 use Rattle.format.specs.WrittenForms.{doubled}
-use Rattle.writer.specs.Form.{formIn}
+use Rattle.writer.specs.Form.{form_in}
 use Rattle.writer.proofs.Fields.{form-bare, size-bare, size-quoted, put-quoted, last-quote}
 use borrow.Author.Rules.{rules}
 use Rattle.writer.proofs.put_field.Statement.{statement}
@@ -85,7 +85,7 @@ returns-2 c =
 same-length-2 : tie.Need-same-length-2
 same-length-2 c =
     let s = c.before.before.before.before.before.before.before.before in
-    ap length (returns-2 c).1 ∙ length-sets s.args.out.now s.args.at (formIn s.args.full (content s))
+    ap length (returns-2 c).1 ∙ length-sets s.args.out.now s.args.at (form_in s.args.full (content s))
 
 pub put-field-spec : {M : Type 1} → statement M
 put-field-spec =

@@ -16,7 +16,7 @@ abbrev begin : tie.Else2 → tie.Start
 begin e = e.before.before.before.before.before.before.before
 
 formed : (e : tie.Else2) → WellFormed (begin e).args.text.now (begin e).args.ends.now (begin e).args.rows.now
-formed e = e.before.is-well-formed.ensures.if-true (not-false e.before.is-well-formed.result e.if2.false)
+formed e = e.before.is-well-formed.ensures.if_true (not-false e.before.is-well-formed.result e.if2.false)
 
 known : (e : tie.Else2) → (begin e).args.mode ≤ 1
 known e = omega (arith, e.before.before.if1.false)
@@ -38,7 +38,7 @@ few-records e =
     records-most (formed e) 4294967295 (λ i. omega (arith, k.shared-slice-known3.given i))
 
 returns : tie.Need-returns
-returns c = WriteOutcome.refusal-1 c.if1.true
+returns c = WriteOutcome.refusal_1 c.if1.true
 
 is-well-formed-requires : tie.Need-is-well-formed-requires
 is-well-formed-requires c κs = search rules
@@ -46,7 +46,7 @@ is-well-formed-requires c κs = search rules
 returns-2 : tie.Need-returns-2
 returns-2 c =
     let f = c.before in
-    WriteOutcome.refusal-14 (omega (arith, f.before.if1.false)) (f.is-well-formed.ensures.if-false (not-true f.is-well-formed.result c.if2.true))
+    WriteOutcome.refusal_14 (omega (arith, f.before.if1.false)) (f.is-well-formed.ensures.if_false (not-true f.is-well-formed.result c.if2.true))
 
 first-forbidden-requires : tie.Need-first-forbidden-requires
 first-forbidden-requires c κs = search rules

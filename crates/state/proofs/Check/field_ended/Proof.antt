@@ -1,6 +1,6 @@
 -- `state::Check::field_ended` meets its contract.
 use borrow.Author.Tests.{le-leb, lt-leb}
-use Rattle.state.specs.Check.{fieldEnded}
+use Rattle.state.specs.Check.{field_ended}
 use Rattle.state.proofs.Check.field_ended.Statement.{statement}
 use Rattle.state.proofs.Check.field_ended.Tie as tie
 
@@ -8,7 +8,7 @@ stopped-requires : tie.Need-stopped-requires
 stopped-requires c κs = tt
 
 returns : tie.Need-returns
-unfolding fieldEnded
+unfolding field_ended
 returns c = rw (c.stopped.ensures, lt-leb _ _ c.before.before.if1.true)
 
 at-end-requires : tie.Need-at-end-requires
@@ -27,7 +27,7 @@ opened-requires : tie.Need-opened-requires
 opened-requires c κs = tt
 
 returns-2 : tie.Need-returns-2
-unfolding fieldEnded
+unfolding field_ended
 returns-2 c =
     let d = c.before.before.before in
     let e = d.before.before in
@@ -36,7 +36,7 @@ returns-2 c =
       c.before.one_field.ensures,
       d.new-field.ensures,
       d.before.plus.ensures,
-      e.at-end.ensures,
+      e.at_end.ensures,
       le-leb _ _ e.before.if1.false,
     )
 

@@ -4,7 +4,7 @@ use mathlib.Core.Bool.{true, ◌||◌, or-true}
 use mathlib.Core.Logic.{⊎_elim}
 use borrow.Author.Tests.{le-leb, lt-leb, not-true, not-false}
 use Rattle.format.specs.Dialect.{ragged, names}
-use Rattle.state.specs.Check.{evenly, recordEnded}
+use Rattle.state.specs.Check.{evenly, record_ended}
 use Rattle.state.proofs.Check.record_ended.Statement.{statement}
 use Rattle.state.proofs.Check.record_ended.Tie as tie
 
@@ -21,7 +21,7 @@ stopped-requires : tie.Need-stopped-requires
 stopped-requires c κs = tt
 
 returns : tie.Need-returns
-unfolding recordEnded
+unfolding record_ended
 returns c = rw (c.stopped.ensures, lt-leb _ _ c.before.before.if1.true)
 
 plus-requires : tie.Need-plus-requires
@@ -37,7 +37,7 @@ stopped-requires-2 : tie.Need-stopped-requires-2
 stopped-requires-2 c κs = tt
 
 returns-2 : tie.Need-returns-2
-unfolding recordEnded
+unfolding record_ended
 returns-2 c =
     let a = c.before.before.before in
     let d = a.before in
@@ -58,7 +58,7 @@ opened-requires : tie.Need-opened-requires
 opened-requires c κs = tt
 
 returns-3 : tie.Need-returns-3
-unfolding recordEnded
+unfolding record_ended
 returns-3 c =
     let d = c.before.before.before in
     let e = d.before.before in
