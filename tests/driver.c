@@ -48,7 +48,6 @@ static const struct {
     {'H', take_stream_hand_state},
     {'M', take_stream_numbered_state},
     {'R', take_unruly_session},
-    {'J', take_jumps},
     {'E', take_trailer},
 };
 
@@ -72,7 +71,6 @@ int main(void)
     states_open();
     sessions_open();
     stream_states_open();
-    jumps_open();
     take_magic();
     while (!take_item())
         continue;

@@ -1,11 +1,11 @@
 //! What the model must keep before its answers are worth comparing with: its reader agrees with
 //! the grammar and with the rule between office and auditor, and its plain form is the shortest.
 
-use crate::model::dialect::{leniency, Dialect};
+use crate::model::dialect::{leniency, Dialect, DELIMITERS};
 use crate::model::grammar::readings;
 use crate::model::reader::{check, read_strict, Room};
 use crate::model::writer::{write, PLAIN};
-use crate::short_files::for_each_to_hold;
+use crate::short_files::{for_each_file, FOUR_SUMS, SIX, TWELVE};
 
 const AMPLE: Room = Room {
     text: 8,
@@ -15,7 +15,18 @@ const AMPLE: Room = Room {
 
 /// Ends the program if a law is broken.
 pub fn hold_of_the_model() {
-    for_each_to_hold(&mut |file, (delimiter, leniencies)| {
+    for delimiter in DELIMITERS {
+        for leniencies in 0..16 {
+            hold_for_files(delimiter, leniencies, TWELVE, 3);
+        }
+    }
+    for leniencies in FOUR_SUMS {
+        hold_for_files(b',', leniencies, SIX, 5);
+    }
+}
+
+fn hold_for_files(delimiter: u8, leniencies: u8, alphabet: &[u8], longest: usize) {
+    for_each_file(alphabet, longest, &mut |file| {
         agrees_with_the_grammar(file, delimiter, leniencies);
         if delimiter == b',' {
             keeps_the_rule_of_the_auditor(file, leniencies);
@@ -23,7 +34,9 @@ pub fn hold_of_the_model() {
         if (delimiter, leniencies) == (b',', 0) {
             is_no_shorter_than_its_plain_form(file);
         }
-    });
+        Ok(())
+    })
+    .expect("nothing is written");
 }
 
 pub fn agrees_with_the_grammar(file: &[u8], delimiter: u8, leniencies: u8) {

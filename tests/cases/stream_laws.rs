@@ -2,14 +2,14 @@
 //! the grammar reads in the beginning that is taken, as a file of its own, and refusals and tables
 //! are the check's.
 
-use crate::model::dialect::{leniency, Dialect};
+use crate::model::dialect::{leniency, Dialect, DELIMITERS};
 use crate::model::grammar::readings;
 use crate::model::reader::{check, fault_found, Room};
 use crate::model::stream::{Plan, Stream};
 use crate::model::table::Table;
 use crate::model::{refusal, BLANK, CONTENT_LIMIT, CR, LF, QUOTE};
 use crate::sessions::in_two;
-use crate::short_files::for_each_to_hold;
+use crate::short_files::{for_each_file, FOUR_SUMS, SIX, TWELVE};
 
 const AMPLE: Room = Room {
     text: usize::MAX,
@@ -19,11 +19,24 @@ const AMPLE: Room = Room {
 
 /// Ends the program if a law is broken.
 pub fn hold_of_the_model() {
-    for_each_to_hold(&mut |file, dialect| {
+    for delimiter in DELIMITERS {
+        for leniencies in 0..16 {
+            hold_for_files((delimiter, leniencies), TWELVE, 3);
+        }
+    }
+    for leniencies in FOUR_SUMS {
+        hold_for_files((b',', leniencies), SIX, 5);
+    }
+}
+
+fn hold_for_files(dialect: (u8, u8), alphabet: &[u8], longest: usize) {
+    for_each_file(alphabet, longest, &mut |file| {
         shows_what_stays(file, dialect);
         hold_for_file(file, dialect);
         keeps_step(file, dialect);
-    });
+        Ok(())
+    })
+    .expect("nothing is written");
 }
 
 /// What holds of a file of any length: at the byte that shows a refusal, and at the close.

@@ -1,7 +1,7 @@
 // The rules' list of bytes to try, run through the public calls, one line for each case: the file, the
-// dialect, the reader's answer and the check's; then the writer's lines; then records by an index. An
-// accepted file shows records, fields, text length and report; a refused one its number, then line, column
-// and byte. The stored output, with which this is compared, has the rules' values.
+// dialect, the reader's answer and the check's; then the writer's lines. An accepted file shows records,
+// fields, text length and report; a refused one its number, then line, column and byte. The stored
+// output, with which this is compared, has the rules' values.
 use format::{Answer, Place, Totals, Written};
 
 fn main() {
@@ -10,7 +10,6 @@ fn main() {
     lenient_files();
     long_contents();
     written_files();
-    asked_records();
 }
 
 fn accepted_files() {
@@ -64,7 +63,12 @@ fn strict(name: &[u8], file: &[u8]) {
     let mut ends: [u32; 8] = [0; 8];
     let mut rows: [u32; 8] = [0; 8];
     let answer = reader::read_strict(file, &mut text, &mut ends, &mut rows);
-    print_case(name, b"strict", answer, pieces::checked(file, b',', 0));
+    print_case(
+        name,
+        b"strict",
+        answer,
+        pieces::ask(pieces::feed(pieces::start(b',', 0), file)),
+    );
 }
 
 fn lenient(name: &[u8], file: &[u8], dialect: &[u8], leniencies: u8) {
@@ -76,7 +80,7 @@ fn lenient(name: &[u8], file: &[u8], dialect: &[u8], leniencies: u8) {
         name,
         dialect,
         answer,
-        pieces::checked(file, b',', leniencies),
+        pieces::ask(pieces::feed(pieces::start(b',', leniencies), file)),
     );
 }
 
@@ -171,39 +175,6 @@ fn print_written(out: &[u8], answer: Written) {
 
 fn refused(n: u64) {
     io::print_decimal(1, n);
-    io::write_all(1, b"\n");
-}
-
-// Three records, the second of them empty and the last without its line break, by the file's own index, which
-// has one entry; then by an entry behind the LF between quotes, and by one behind a CR. Each with the refusal,
-// where the record starts and how long it is, and that part of the file.
-fn asked_records() {
-    let mut index: [u32; 1] = [9; 1];
-    let file = b"a\r\n\r\n\"b\r\nc\"";
-    jump::index(file, b',', 0, &mut index);
-    asked(file, &index, 0);
-    asked(file, &index, 1);
-    asked(file, &index, 2);
-    asked(file, &index, 3);
-    asked(file, &index, 64);
-    let between_quotes: [u32; 1] = [9];
-    asked(file, &between_quotes, 0);
-    let behind_cr: [u32; 1] = [4];
-    asked(file, &behind_cr, 0);
-}
-
-fn asked(file: &[u8], index: &[u32], record: usize) {
-    let lies = jump::locate(file, b',', 0, index, record);
-    print_file(file);
-    io::write_all(1, b" | record ");
-    io::print_decimal(1, record as u64);
-    io::write_all(1, b" | ");
-    io::print_decimal(1, lies.refusal as u64);
-    io::write_all(1, b"; ");
-    print_first(lies.start.0);
-    io::print_decimal(1, lies.length as u64);
-    io::write_all(1, b" | ");
-    print_file(jump::show(file, b',', 0, index, record));
     io::write_all(1, b"\n");
 }
 

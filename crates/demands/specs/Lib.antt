@@ -1,3 +1,2 @@
 pub mod Demands
-pub mod Jumping
 pub mod Streaming

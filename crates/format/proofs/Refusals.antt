@@ -13,7 +13,7 @@ use Rattle.format.specs.Table.{Bytes, Content, Table, Every}
 use Rattle.format.specs.Dialect.{lf, ragged, Dialect, text, CR, LF, forbidden, class_of, delimits}
 use Rattle.format.specs.Grammar.{Blanks, Bare, Open, opened, Quoted, Field, Record, Break}
 use Rattle.format.specs.House.{is_ragged, EqualRows, content_limit, Fits, Allowed}
-use Rattle.format.specs.Refusal.{NoLf, LineEnd, FieldEnd, FieldFault, FieldRefusal, fault, refusal_3, refusal_3_inside, refusal_4, refusal_5, refusal_5_quote, refusal_6, refusal_7, refusal_8, refusal_9, Fields, Records, Refusal, in_field, refusal_10}
+use Rattle.format.specs.Refusal.{NoLf, LineEnd, FieldEnd, FieldRefusal, refusal_3, refusal_3_inside, refusal_4, refusal_5, refusal_5_quote, refusal_6, refusal_7, refusal_8, refusal_9, Fields, Records, Refusal, in_field, refusal_10}
 use Rattle.format.proofs.Classes.{class-LF, quote-is, CR-is, LF-is, delimiter-is}
 use Rattle.format.proofs.Even.{even-one, even-last}
 use Rattle.format.proofs.Grow.{blanks-cut, bare-cut, open-cut, quoted-cut, field_cut, record-cut}
@@ -65,28 +65,13 @@ module _ {d : Dialect} where
   fields-begin Fields.none = first
   fields-begin (Fields.more {b} {g} p e x) = let (s, q, _) = field_cut d (b ∷ g) [] p refl in later s (inl (delimiter-is d b e)) q (fields-begin x)
 
-  -- what stands behind whole records is the source itself, or stands straight behind an LF
-  pub records-behind : {f g : Bytes} {t : Table} → Records d f t g → (f ≡ g) ⊎ ((s : Bytes) × (f ≡ s ++ (0x0A ∷ g)))
-  records-behind Records.none = inl refl
-  records-behind (Records.more {h} r k x) = inr (onward (line-feed r k) (records-behind x))
-    where
-      line-feed : {f g h : Bytes} {cs : List Content} → Record d f cs g → Break d g h → (s : Bytes) × (f ≡ s ++ (0x0A ∷ h))
-      line-feed r (Break.crlf {a} {b} {g} j k) =
-          let (s, q, _) = record-cut d (a ∷ b ∷ g) [] r refl in
-          (s ++ (a ∷ []), q ∙ (sym (append_assoc s (a ∷ []) (b ∷ g)) ∙ ap (λ (n : ℕ). (s ++ (a ∷ [])) ++ (n ∷ g)) (LF-is d b k)))
-      line-feed r (Break.lf_alone {b} {g} j k) =
-          let (s, q, _) = record-cut d (b ∷ g) [] r refl in (s, q ∙ ap (λ (n : ℕ). s ++ (n ∷ g)) (LF-is d b j))
-
-      onward : {f h g : Bytes} → (s : Bytes) × (f ≡ s ++ (0x0A ∷ h)) → (h ≡ g) ⊎ ((s : Bytes) × (h ≡ s ++ (0x0A ∷ g))) → (s : Bytes) × (f ≡ s ++ (0x0A ∷ g))
-      onward (s, q) (inl e) = (s, q ∙ ap (λ (l : Bytes). s ++ (0x0A ∷ l)) e)
-      onward {g} (s, q) (inr (z, e)) = (s ++ (0x0A ∷ z), q ∙ (ap (λ (l : Bytes). s ++ (0x0A ∷ l)) e ∙ sym (append_assoc s (0x0A ∷ z) (0x0A ∷ g))))
-
   records-begin : {f g h : Bytes} {t : Table} {cs : List Content} → Records d f t g → Fields d g cs h → Begins d f h
-  records-begin {f} {g} {h} x y = by (records-behind x)
-    where
-      by : (f ≡ g) ⊎ ((s : Bytes) × (f ≡ s ++ (0x0A ∷ g))) → Begins d f h
-      by (inl e) = subst (λ (l : Bytes). Begins d l h) (sym e) (fields-begin y)
-      by (inr (s, q)) = later s (inr refl) q (fields-begin y)
+  records-begin Records.none y = fields-begin y
+  records-begin (Records.more r (Break.crlf {a} {b} {g} j k) x) y =
+      let (s, q, _) = record-cut d (a ∷ b ∷ g) [] r refl in
+      later (s ++ (a ∷ [])) (inr (LF-is d b k)) (q ∙ sym (append_assoc s (a ∷ []) (b ∷ g))) (records-begin x y)
+  records-begin (Records.more r (Break.lf_alone {b} {g} j k) x) y =
+      let (s, q, _) = record-cut d (b ∷ g) [] r refl in later s (inr (LF-is d b j)) q (records-begin x y)
 
 -- the record that equal rows do not admit differs from the first, and "ragged" is off
 uneven-last :
@@ -107,18 +92,15 @@ module _ (d : Dialect) (valid : T (delimits d.delimiter_byte)) where
   no_lf (b ∷ g) n (h, e) = let q : b ≡ 0x0A = cc in n (rw q (class-LF d valid))
 
   -- every refusal is as its row says
-  fault-row : {n : ℕ} {f found named : Bytes} → FieldFault d n f found named → FieldRow d f n found named
-  fault-row (refusal_3 p e) = row_3 (stands refl) e
-  fault-row (refusal_3_inside x o e) = row_3 (stands refl) e
-  fault-row (refusal_4 {b} x k y e) = row_4 (stands (quote-is d b e))
-  fault-row (refusal_5 x k y e) = row_5 (stands refl) (inl e)
-  fault-row (refusal_5_quote {b} x k j y e) = row_5 (stands refl) (inr (quote-is d b e))
-  fault-row (refusal_6 {b} {g} p e n) = row_6 {g = g} (ap (λ (x : ℕ). x ∷ g) (CR-is d b e)) (no_lf g n)
-  fault-row (refusal_7 {b} p e o) = row_7 (stands (LF-is d b e)) o
-  fault-row (refusal_8 x (opened {b} e k)) = row_8 (stands (quote-is d b e))
-
   pub field_row : {n : ℕ} {f found named : Bytes} → FieldRefusal d n f found named → FieldRow d f n found named
-  field_row (fault x) = fault-row x
+  field_row (refusal_3 p e) = row_3 (stands refl) e
+  field_row (refusal_3_inside x o e) = row_3 (stands refl) e
+  field_row (refusal_4 {b} x k y e) = row_4 (stands (quote-is d b e))
+  field_row (refusal_5 x k y e) = row_5 (stands refl) (inl e)
+  field_row (refusal_5_quote {b} x k j y e) = row_5 (stands refl) (inr (quote-is d b e))
+  field_row (refusal_6 {b} {g} p e n) = row_6 {g = g} (ap (λ (x : ℕ). x ∷ g) (CR-is d b e)) (no_lf g n)
+  field_row (refusal_7 {b} p e o) = row_7 (stands (LF-is d b e)) o
+  field_row (refusal_8 x (opened {b} e k)) = row_8 (stands (quote-is d b e))
   field_row (refusal_9 p k l) = row_9 p k (λ h. omega arith)
 
   pub refusal-row : {n : ℕ} {f found named : Bytes} → Refusal d n f found named → Row d f n found named
@@ -128,20 +110,20 @@ module _ (d : Dialect) (valid : T (delimits d.delimiter_byte)) where
   -- No fault is missed. A CR and an LF behind a field begin a line break, or are refused;
   pub line-or-6 :
       {b : ℕ} {f : Bytes} {c : Content} (g : Bytes)
-      → Field d f c (b ∷ g) → class_of d b ≡ CR → ((h : Bytes) × Break d (b ∷ g) h) ⊎ FieldFault d 6 f (b ∷ g) (b ∷ g)
+      → Field d f c (b ∷ g) → class_of d b ≡ CR → ((h : Bytes) × Break d (b ∷ g) h) ⊎ FieldRefusal d 6 f (b ∷ g) (b ∷ g)
   line-or-6 [] p k = inr (refusal_6 p k tt)
   line-or-6 {b} {f} (a ∷ g) p k = go (eqb a 0x0A) refl
     where
-      go : (x : Bool) → eqb a 0x0A ≡ x → ((h : Bytes) × Break d (b ∷ a ∷ g) h) ⊎ FieldFault d 6 f (b ∷ a ∷ g) (b ∷ a ∷ g)
+      go : (x : Bool) → eqb a 0x0A ≡ x → ((h : Bytes) × Break d (b ∷ a ∷ g) h) ⊎ FieldRefusal d 6 f (b ∷ a ∷ g) (b ∷ a ∷ g)
       go true e = let l : class_of d a ≡ LF = rw (eqb-true a 0x0A e) (class-LF d valid) in inl (g, Break.crlf k l)
       go false e = inr (refusal_6 p k (λ l. eqb-false a 0x0A e (LF-is d a l)))
 
 pub line-or-7 :
     {d : Dialect} {b : ℕ} {f g : Bytes} {c : Content}
-    → Field d f c (b ∷ g) → class_of d b ≡ LF → Break d (b ∷ g) g ⊎ FieldFault d 7 f (b ∷ g) (b ∷ g)
+    → Field d f c (b ∷ g) → class_of d b ≡ LF → Break d (b ∷ g) g ⊎ FieldRefusal d 7 f (b ∷ g) (b ∷ g)
 line-or-7 {d} {b} {f} {g} p k = go (d.allows lf) refl
   where
-    go : (x : Bool) → d.allows lf ≡ x → Break d (b ∷ g) g ⊎ FieldFault d 7 f (b ∷ g) (b ∷ g)
+    go : (x : Bool) → d.allows lf ≡ x → Break d (b ∷ g) g ⊎ FieldRefusal d 7 f (b ∷ g) (b ∷ g)
     go true e = inl (Break.lf_alone k (rw e tt))
     go false e = inr (refusal_7 p k e)
 
@@ -205,18 +187,15 @@ module _ {d : Dialect} where
   quoted-rest : {f g : Bytes} {c : Content} → Quoted d f c g → RestOf f g
   quoted-rest {g} x = let (s, q, _) = quoted-cut d g [] x refl in (s, q)
 
-  fault-rests : {n : ℕ} {f found named : Bytes} → FieldFault d n f found named → Rests f found named
-  fault-rests (refusal_3 p e) = same (field-rest p)
-  fault-rests (refusal_3_inside x o e) = same (rest_then (blanks-rest x) (open-rest o))
-  fault-rests (refusal_4 x k y e) = same (rest_then (blanks-rest x) (bare-rest y))
-  fault-rests (refusal_5 x k y e) = same (rest_then (blanks-rest x) (rest_then (quoted-rest k) (blanks-rest y)))
-  fault-rests (refusal_5_quote {a} x k j y e) = same (rest_then (blanks-rest x) (rest_then (quoted-rest k) (blanks-rest (Blanks.more j y))))
-  fault-rests (refusal_6 p e n) = same (field-rest p)
-  fault-rests (refusal_7 p e o) = same (field-rest p)
-  fault-rests (refusal_8 x o) = (open-rest o, blanks-rest x)
-
   pub field-rests : {n : ℕ} {f found named : Bytes} → FieldRefusal d n f found named → Rests f found named
-  field-rests (fault x) = fault-rests x
+  field-rests (refusal_3 p e) = same (field-rest p)
+  field-rests (refusal_3_inside x o e) = same (rest_then (blanks-rest x) (open-rest o))
+  field-rests (refusal_4 x k y e) = same (rest_then (blanks-rest x) (bare-rest y))
+  field-rests (refusal_5 x k y e) = same (rest_then (blanks-rest x) (rest_then (quoted-rest k) (blanks-rest y)))
+  field-rests (refusal_5_quote {a} x k j y e) = same (rest_then (blanks-rest x) (rest_then (quoted-rest k) (blanks-rest (Blanks.more j y))))
+  field-rests (refusal_6 p e n) = same (field-rest p)
+  field-rests (refusal_7 p e o) = same (field-rest p)
+  field-rests (refusal_8 x o) = (open-rest o, blanks-rest x)
   field-rests (refusal_9 p k l) = (field-rest p, ([], refl))
 
   begins-rest : {f p : Bytes} → Begins d f p → RestOf f p

@@ -20,29 +20,25 @@ pub data FieldEnd (d : Dialect) : Bytes → Type 0 where
   delimited : {b : ℕ} {g : Bytes} → class_of d b ≡ delimiter → FieldEnd d (b ∷ g)
   lined : {g h : Bytes} → LineEnd d g h → FieldEnd d g
 
--- a fault in the field that begins at f, whatever the limits are: 3 to 8
-pub data FieldFault (d : Dialect) : ℕ → Bytes → Bytes → Bytes → Type 0 where
+-- a fault in the field that begins at f
+pub data FieldRefusal (d : Dialect) : ℕ → Bytes → Bytes → Bytes → Type 0 where
   -- 3, a forbidden byte: behind a field, or inside an open one
-  refusal_3 : {b : ℕ} {f g : Bytes} {c : Content} → Field d f c (b ∷ g) → class_of d b ≡ forbidden → FieldFault d 3 f (b ∷ g) (b ∷ g)
-  refusal_3_inside : {b : ℕ} {f q g : Bytes} {c : Content} → Blanks d f q → Open d q c (b ∷ g) → class_of d b ≡ forbidden → FieldFault d 3 f (b ∷ g) (b ∷ g)
+  refusal_3 : {b : ℕ} {f g : Bytes} {c : Content} → Field d f c (b ∷ g) → class_of d b ≡ forbidden → FieldRefusal d 3 f (b ∷ g) (b ∷ g)
+  refusal_3_inside : {b : ℕ} {f q g : Bytes} {c : Content} → Blanks d f q → Open d q c (b ∷ g) → class_of d b ≡ forbidden → FieldRefusal d 3 f (b ∷ g) (b ∷ g)
   -- 4, a quote in a bare field: text has come before it
   refusal_4 : {a b : ℕ} {f g h : Bytes} {c : Content}
-      → Blanks d f (a ∷ g) → class_of d a ≡ text → Bare d g c (b ∷ h) → class_of d b ≡ quote → FieldFault d 4 f (b ∷ h) (b ∷ h)
+      → Blanks d f (a ∷ g) → class_of d a ≡ text → Bare d g c (b ∷ h) → class_of d b ≡ quote → FieldRefusal d 4 f (b ∷ h) (b ∷ h)
   -- 5, a wrong byte after a closing quote: text, or a quote that blanks part from it
   refusal_5 : {b : ℕ} {f g h i : Bytes} {c : Content}
-      → Blanks d f g → Quoted d g c h → Blanks d h (b ∷ i) → class_of d b ≡ text → FieldFault d 5 f (b ∷ i) (b ∷ i)
+      → Blanks d f g → Quoted d g c h → Blanks d h (b ∷ i) → class_of d b ≡ text → FieldRefusal d 5 f (b ∷ i) (b ∷ i)
   refusal_5_quote : {a b : ℕ} {f g h i : Bytes} {c : Content}
-      → Blanks d f g → Quoted d g c (a ∷ h) → class_of d a ≡ blank → Blanks d h (b ∷ i) → class_of d b ≡ quote → FieldFault d 5 f (b ∷ i) (b ∷ i)
+      → Blanks d f g → Quoted d g c (a ∷ h) → class_of d a ≡ blank → Blanks d h (b ∷ i) → class_of d b ≡ quote → FieldRefusal d 5 f (b ∷ i) (b ∷ i)
   -- 6, a CR outside quotes without LF next
-  refusal_6 : {b : ℕ} {f g : Bytes} {c : Content} → Field d f c (b ∷ g) → class_of d b ≡ CR → NoLf d g → FieldFault d 6 f (b ∷ g) (b ∷ g)
+  refusal_6 : {b : ℕ} {f g : Bytes} {c : Content} → Field d f c (b ∷ g) → class_of d b ≡ CR → NoLf d g → FieldRefusal d 6 f (b ∷ g) (b ∷ g)
   -- 7, a bare LF that is not allowed
-  refusal_7 : {b : ℕ} {f g : Bytes} {c : Content} → Field d f c (b ∷ g) → class_of d b ≡ LF → d.allows lf ≡ false → FieldFault d 7 f (b ∷ g) (b ∷ g)
+  refusal_7 : {b : ℕ} {f g : Bytes} {c : Content} → Field d f c (b ∷ g) → class_of d b ≡ LF → d.allows lf ≡ false → FieldRefusal d 7 f (b ∷ g) (b ∷ g)
   -- 8, a quoted field still open at the end: it names the opening quote
-  refusal_8 : {f q : Bytes} {c : Content} → Blanks d f q → Open d q c [] → FieldFault d 8 f [] q
-
--- what refuses that field: such a fault, or 9
-pub data FieldRefusal (d : Dialect) : ℕ → Bytes → Bytes → Bytes → Type 0 where
-  fault : {n : ℕ} {f found named : Bytes} → FieldFault d n f found named → FieldRefusal d n f found named
+  refusal_8 : {f q : Bytes} {c : Content} → Blanks d f q → Open d q c [] → FieldRefusal d 8 f [] q
   -- 9, a content over the limit, found where the field ends: it names the field's first byte
   refusal_9 : {f g : Bytes} {c : Content} → Field d f c g → FieldEnd d g → content_limit < length c → FieldRefusal d 9 f g f
 

@@ -32,7 +32,7 @@ use Rattle.format.proofs.Every.{each-every, every-last}
 use Rattle.format.proofs.Grow.{blanks-join}
 use Rattle.format.proofs.Memory.{flatten-one, lengths-one}
 use Rattle.steps.proofs.Forms.{at-begun, held_in}
-use Rattle.format.proofs.Walk.{file-nil}
+use Rattle.steps.proofs.Limits.{file-nil}
 use Rattle.steps.proofs.One.{one-so-far}
 use Rattle.output.proofs.Step.{Standing, standing, Clear, clear, then-nothing}
 

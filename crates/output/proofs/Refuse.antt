@@ -10,7 +10,7 @@ use Rattle.format.specs.Table.{Bytes, Content, Table, Every}
 use Rattle.format.specs.Dialect.{lf, ragged, names, Dialect, dialect, class_of}
 use Rattle.format.specs.Grammar.{Field, Record, Break}
 use Rattle.format.specs.House.{width_of, content_limit, file_limit, Fits, Allowed}
-use Rattle.format.specs.Refusal.{LineEnd, FieldEnd, delimited, lined, fault, refusal_6, refusal_8, refusal_9, Fields, Records, Refusal, in_field, refusal_10}
+use Rattle.format.specs.Refusal.{LineEnd, FieldEnd, delimited, lined, refusal_6, refusal_8, refusal_9, Fields, Records, Refusal, in_field, refusal_10}
 use Rattle.steps.specs.Steps.{Form, start, lead, bare, quoted, shut, tail, cr, nothing, put, hold, drop, field_end, record_end, Act, refuse, go, step_of}
 use Rattle.steps.specs.Model.{is_valid}
 use Rattle.steps.specs.Numbers.{form_number}
@@ -89,9 +89,9 @@ module _
     by_fault : (i : ℕ) → Fault (dialect x sum) i b h c → Found
     by_fault i (behind {named} found p q) =
         let z = cut_field (dialect x sum) t cs rs fs p in
-        record { n = i; found = found; named = named; before = z.0; refusal = in_field rs allowed fs fitting (fault q); split = z.1; out = z.2 }
+        record { n = i; found = found; named = named; before = z.0; refusal = in_field rs allowed fs fitting q; split = z.1; out = z.2 }
     by_fault i (within {named} q) =
-        record { n = i; found = b ∷ []; named = named; before = f; refusal = in_field rs allowed fs fitting (fault q); split = refl; out = here }
+        record { n = i; found = b ∷ []; named = named; before = f; refusal = in_field rs allowed fs fitting q; split = refl; out = here }
 
     -- a content over the limit
     by-9 : (found : Bytes) → Field (dialect x sum) (h ++ (b ∷ [])) c found → FieldEnd (dialect x sum) found → content_limit < length c → Found
@@ -183,7 +183,7 @@ module _
             (uneven (dialect x sum) t (cs ++ (c ∷ [])) (rw (w.leniencies, w.width, row_number x sum f e 0 0 k t cs c n _ h w (omega arith)) at j))
 
     shut-8 : {m : ℕ} → Known x sum f e quoted t cs c n g h → At (dialect x sum) quoted h c m → Shut
-    shut-8 w (at_quoted y k) = shut-found quoted w (in_field w.records (allowed x sum f e 0 quoted t cs c n g h w) w.fields (fitting x sum f e 0 quoted t cs c n g h w) (fault (refusal_8 y k)))
+    shut-8 w (at_quoted y k) = shut-found quoted w (in_field w.records (allowed x sum f e 0 quoted t cs c n g h w) w.fields (fitting x sum f e 0 quoted t cs c n g h w) (refusal_8 y k))
 
     shut-6 : Known x sum f e cr t cs c n g h → At (dialect x sum) cr h c n → Shut
     shut-6 w (at_cr {b} q j) =
@@ -193,7 +193,7 @@ module _
           found = b ∷ [];
           named = b ∷ [];
           before = z.0;
-          refusal = in_field w.records (allowed x sum f e 0 cr t cs c _ g h w) w.fields (fitting x sum f e 0 cr t cs c _ g h w) (fault (refusal_6 q j tt));
+          refusal = in_field w.records (allowed x sum f e 0 cr t cs c _ g h w) w.fields (fitting x sum f e 0 cr t cs c _ g h w) (refusal_6 q j tt);
           split = z.1;
           out = z.2;
         }

@@ -1,10 +1,11 @@
 -- Outcomes of a read: from the check's answer to them, and the laws that two calls obey.
 use Prim.Native.Nat.{ℕ, ◌≤◌, ◌<◌}
+use native.Mathlib.Omega.{arith}
 use mathlib.Core.Path.{◌≡◌, refl, sym, subst}
 use mathlib.Core.List.{List, flatten}
 use lib.ListN.{length}
 use Rattle.format.specs.declared.Answer.{Answer}
-use Rattle.format.specs.Answer.{refused_by}
+use Rattle.format.specs.Answer.{accepted_as, refused_by}
 use Rattle.format.specs.Table.{Bytes, Table}
 use Rattle.format.specs.Dialect.{dialect}
 use Rattle.format.specs.Place.{nowhere}
@@ -12,8 +13,8 @@ use Rattle.format.specs.Reading.{Accepted}
 use Rattle.format.specs.Memory.{text_of, ends_of, rows_of}
 use Rattle.steps.proofs.Verdicts.{reading-taken}
 use Rattle.format.proofs.Memory.{length-lengths}
+use Rattle.format.proofs.Numbers.{refused-number}
 use Rattle.pieces.specs.Answers.{Answers, accepted, refused}
-use Rattle.pieces.proofs.Stands.{Takes, takes}
 use Rattle.fill.specs.Fill.{text_read, ends_read, rows_read}
 use Rattle.format.specs.Filling.{over}
 use Rattle.reader.specs.Read.{NoRoom, no_text, no_ends, no_rows, ReadOutcome}
@@ -30,6 +31,14 @@ walked {b} {sum} {f} {t} a =
     let (m, l, e) = reading-taken (dialect b sum) a.reading in
     let (x, y, z) = filled (dialect b sum) f t m l e in
     record { text_is = x; ends_is = y; rows_is = z }
+
+-- what the check accepts, with its answer
+pub data Takes (b sum : ℕ) (f : Bytes) : Answer → Type 0 where
+  takes : {t : Table} {r : ℕ} → Accepted b sum f t r → Takes b sum f (accepted_as t r)
+
+pub accepts-it : {b sum : ℕ} {f : Bytes} {a : Answer} → Answers b sum f a → a.refusal ≡ 0 → Takes b sum f a
+accepts-it (accepted h) e = takes h
+accepts-it (refused h) e = absurd (omega (arith, refused-number h))
 
 -- the second walk has room
 pub has_room :

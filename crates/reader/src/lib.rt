@@ -27,7 +27,7 @@ pub fn read(
 ) -> Answer
     ensures { ReadOutcome delimiter leniencies file.now text.old ends.old rows.old result text.new ends.new rows.new }
 {
-    let answer = pieces::checked(file, delimiter, leniencies);
+    let answer = checked(file, delimiter, leniencies);
     if answer.refusal != 0 {
         return answer;
     }
@@ -39,6 +39,13 @@ pub fn read_strict(file: &[u8], text: &mut [u8], ends: &mut [u32], rows: &mut [u
     ensures { ReadOutcome 0x2C 0 file.now text.old ends.old rows.old result text.new ends.new rows.new }
 {
     read(file, b',', 0, text, ends, rows)
+}
+
+// The check of the whole file.
+fn checked(file: &[u8], delimiter: u8, leniencies: u8) -> Answer
+    ensures { Answers delimiter leniencies file.now result }
+{
+    pieces::ask(pieces::feed(pieces::start(delimiter, leniencies), file))
 }
 
 // Reads a file that the check accepted, with its answer, if there is room.

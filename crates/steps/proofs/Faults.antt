@@ -1,13 +1,15 @@
 -- Whatever has a fault, the model refuses: refusals 3 to 8, in a field.
-use Prim.Native.Nat.{ℕ}
+use Prim.Native.Nat.{ℕ, ◌<◌}
 use mathlib.Core.Path.{◌≡◌, refl, ap, ◌∙◌}
 use mathlib.Core.Bool.{false}
 use mathlib.Core.List.{[], ◌∷◌}
+use lib.ListN.{length}
 use Rattle.format.specs.Table.{Bytes, Content}
 use Rattle.format.specs.Dialect.{lf, Dialect, Class, text, blank, delimiter, quote, CR, LF, forbidden, class_of}
 use Rattle.format.specs.Grammar.{Blanks, Open, opened, Field}
+use Rattle.format.specs.House.{content_limit}
 use Rattle.format.specs.Count.{dropped}
-use Rattle.format.specs.Refusal.{NoLf, FieldFault, refusal_3, refusal_3_inside, refusal_4, refusal_5, refusal_5_quote, refusal_6, refusal_7, refusal_8}
+use Rattle.format.specs.Refusal.{NoLf, FieldEnd, FieldRefusal, refusal_3, refusal_3_inside, refusal_4, refusal_5, refusal_5_quote, refusal_6, refusal_7, refusal_8, refusal_9}
 use Rattle.steps.specs.Steps.{start, lead, bare, quoted, shut, tail, cr, step_of}
 use Rattle.steps.specs.Model.{cell, refused, change, putting, dropping, run}
 use Rattle.steps.proofs.Complete.{Stops, at_CR, at_LF, at_forbidden, set, start-lead, blanks-lead, blanks-tail, bare-refused, inside, opens, quotes, fields}
@@ -80,13 +82,20 @@ module _ (d : Dialect) where
       {n : ℕ} {f g a q : Bytes} {c : Content} → Field d f c g → Stops d g → run d g tail [] ≡ refused n a q → run d f start [] ≡ refused n a q
   over-refused {f} {g} {c} p s h = fields d p s ∙ ap (set (cell c (dropped f c g p))) h
 
-  -- a fault is the model's refusal
-  pub fault-refused : {n : ℕ} {f a q : Bytes} → FieldFault d n f a q → run d f start [] ≡ refused n a q
-  fault-refused (refusal_3 {b} {g} p e) = over-refused p (at_forbidden e) (at-forbidden-byte b g [] e).0
-  fault-refused (refusal_3_inside {b} {q} {g} x o e) = behind-blanks x (inside-refused o (at-forbidden-byte b g q e).1)
-  fault-refused (refusal_4 {a} {b} {g} {h} x t k e) = behind-blanks x (lead-text a g t (bare-refused d k (bare-quote b h e)))
-  fault-refused (refusal_5 {b} {g} {i} x k y t) = behind-blanks x (quotes d 0 (refused 5 (b ∷ i) (b ∷ i)) k (shut-text g y t))
-  fault-refused (refusal_5_quote {a} {b} {g} {h} {i} x k v y e) = behind-blanks x (quotes d 0 (refused 5 (b ∷ i) (b ∷ i)) k (shut-blank a h g v (tail-refused y (tail-quote b i e))))
-  fault-refused (refusal_6 {b} {g} p e l) = over-refused p (at_CR e) (lone-CR b g e l)
-  fault-refused (refusal_7 {b} {g} p e l) = over-refused p (at_LF e) (bare-LF b g e l)
-  fault-refused (refusal_8 {q} x o) = behind-blanks x (inside-refused o (open-at-end q))
+  -- what follows from the run of every field with a fault but 9, follows from the fault
+  pub field-refused :
+      (P : ℕ → Bytes → Bytes → Bytes → Type 0)
+      → ((n : ℕ) (f a q : Bytes) → run d f start [] ≡ refused n a q → P n f a q)
+      → ((f g : Bytes) (c : Content) → Field d f c g → FieldEnd d g → content_limit < length c → P 9 f g f)
+      → {n : ℕ} {f a q : Bytes} → FieldRefusal d n f a q → P n f a q
+  field-refused P run-says long (refusal_3 {b} {g} p e) = run-says _ _ _ _ (over-refused p (at_forbidden e) (at-forbidden-byte b g [] e).0)
+  field-refused P run-says long (refusal_3_inside {b} {q} {g} x o e) = run-says _ _ _ _ (behind-blanks x (inside-refused o (at-forbidden-byte b g q e).1))
+  field-refused P run-says long (refusal_4 {a} {b} {g} {h} x t k e) = run-says _ _ _ _ (behind-blanks x (lead-text a g t (bare-refused d k (bare-quote b h e))))
+  field-refused P run-says long (refusal_5 {b} {g} {i} x k y t) =
+      run-says _ _ _ _ (behind-blanks x (quotes d 0 (refused 5 (b ∷ i) (b ∷ i)) k (shut-text g y t)))
+  field-refused P run-says long (refusal_5_quote {a} {b} {g} {h} {i} x k v y e) =
+      run-says _ _ _ _ (behind-blanks x (quotes d 0 (refused 5 (b ∷ i) (b ∷ i)) k (shut-blank a h g v (tail-refused y (tail-quote b i e)))))
+  field-refused P run-says long (refusal_6 {b} {g} p e l) = run-says _ _ _ _ (over-refused p (at_CR e) (lone-CR b g e l))
+  field-refused P run-says long (refusal_7 {b} {g} p e l) = run-says _ _ _ _ (over-refused p (at_LF e) (bare-LF b g e l))
+  field-refused P run-says long (refusal_8 {q} x o) = run-says _ _ _ _ (behind-blanks x (inside-refused o (open-at-end q)))
+  field-refused P run-says long (refusal_9 p e l) = long _ _ _ p e l

@@ -10,7 +10,7 @@ use Rattle.format.specs.Table.{Bytes, Content, last_of}
 use Rattle.format.specs.Dialect.{lf, Dialect, Class, text, blank, delimiter, quote, CR, LF, forbidden, class_of}
 use Rattle.format.specs.Grammar.{padded, Blanks, Bare, Inside, Open, opened, Quoted, closed, Field, Break}
 use Rattle.format.specs.Count.{blank_count}
-use Rattle.format.specs.Refusal.{FieldFault, refusal_3, refusal_3_inside, refusal_4, refusal_5, refusal_5_quote, refusal_6, refusal_7, refusal_8}
+use Rattle.format.specs.Refusal.{FieldRefusal, refusal_3, refusal_3_inside, refusal_4, refusal_5, refusal_5_quote, refusal_6, refusal_7, refusal_8, refusal_9}
 use Rattle.format.specs.SoFar.{Begun}
 use Rattle.format.proofs.Classes.{droppable, text-ordinary, blank-ordinary, unpadded, unpadded-ends, quoted_class, inside-byte}
 use Rattle.format.proofs.Grow.{blanks-grow, grow-count, bare-grow, inside-grow, open-grow, quoted-grow, field-grow, blanks-join, bare-join, inside-join, blanks-bare, blanks-count}
@@ -53,8 +53,8 @@ at_field (at_tail x k i y) u = Field.quoted x k (Blanks.more i y)
 
 -- a byte b that the table refuses is a fault in its field: found behind the field, or inside it at that very byte
 pub data Fault (d : Dialect) (i b : ℕ) (h : Bytes) (c : Content) : Type 0 where
-  behind : {named : Bytes} (found : Bytes) → Field d (h ++ (b ∷ [])) c found → FieldFault d i (h ++ (b ∷ [])) found named → Fault d i b h c
-  within : {named : Bytes} → FieldFault d i (h ++ (b ∷ [])) (b ∷ []) named → Fault d i b h c
+  behind : {named : Bytes} (found : Bytes) → Field d (h ++ (b ∷ [])) c found → FieldRefusal d i (h ++ (b ∷ [])) found named → Fault d i b h c
+  within : {named : Bytes} → FieldRefusal d i (h ++ (b ∷ [])) (b ∷ []) named → Fault d i b h c
 
 -- what a byte b behind the field h makes of it, by the step's act
 abbrev pub Makes : Dialect → ℕ → Bytes → Content → ℕ → Act → Type 0
@@ -190,17 +190,18 @@ module _ (d : Dialect) (b : ℕ) where
       by true false i j = goes_on a x (rw (i, j) tt) e
       by false z i j = goes_on a x (rw i tt) e
 
--- a fault has a number
-number : {d : Dialect} {i : ℕ} {f found named : Bytes} → FieldFault d i f found named → eqb i 0 ≡ false
-number (refusal_3 p e) = refl
-number (refusal_3_inside x k e) = refl
-number (refusal_4 x i k e) = refl
-number (refusal_5 x k y e) = refl
-number (refusal_5_quote x k i y e) = refl
-number (refusal_6 p e l) = refl
-number (refusal_7 p e l) = refl
-number (refusal_8 x k) = refl
+-- a refusal has a number
+refusal-number : {d : Dialect} {i : ℕ} {f found named : Bytes} → FieldRefusal d i f found named → eqb i 0 ≡ false
+refusal-number (refusal_3 p e) = refl
+refusal-number (refusal_3_inside x k e) = refl
+refusal-number (refusal_4 x i k e) = refl
+refusal-number (refusal_5 x k y e) = refl
+refusal-number (refusal_5_quote x k i y e) = refl
+refusal-number (refusal_6 p e l) = refl
+refusal-number (refusal_7 p e l) = refl
+refusal-number (refusal_8 x k) = refl
+refusal-number (refusal_9 p e l) = refl
 
 pub fault-number : {d : Dialect} {i b : ℕ} {h : Bytes} {c : Content} → Fault d i b h c → eqb i 0 ≡ false
-fault-number (behind found p q) = number q
-fault-number (within q) = number q
+fault-number (behind found p q) = refusal-number q
+fault-number (within q) = refusal-number q

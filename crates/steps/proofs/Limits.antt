@@ -9,16 +9,15 @@ use lib.ListN.{length}
 use borrow.Author.Tests.{le-leb, lt-leb, leb-true, leb-false}
 use Rattle.format.specs.Table.{Bytes, Content, Table, Ending, Every}
 use Rattle.format.specs.Dialect.{Dialect, delimiter, class_of}
-use Rattle.format.specs.Grammar.{Field, Record, Break, File}
+use Rattle.format.specs.Grammar.{Blanks, Bare, Open, opened, closed, Field, Record, Break, File}
 use Rattle.format.specs.House.{LastBreak, content_limit, Fits}
-use Rattle.format.specs.Refusal.{LineEnd, FieldEnd, delimited, lined, FieldRefusal, fault, refusal_9, Fields}
+use Rattle.format.specs.Refusal.{LineEnd, FieldEnd, delimited, lined, FieldRefusal, refusal_9, Fields}
 use Rattle.format.specs.Count.{sum_in_record, sum_in_file, dropped, alone, alones}
 use Rattle.format.proofs.Classes.{decide}
-use Rattle.format.proofs.Walk.{record-nil, break-nil, file-nil}
 use Rattle.steps.specs.Steps.{start}
 use Rattle.steps.specs.Model.{Cell, cell, Trace, ending, run, Judged, declined, taken, Width, any, settled, agrees, beside, above, fits, line_ends, judge, read}
-use Rattle.steps.proofs.Sound.{Means, is_wrong, is_bad, is_last, is_ended, is_field, is_line, from_start, sound, wrong-fault, bad-fault}
-use Rattle.steps.proofs.Faults.{fault-refused}
+use Rattle.steps.proofs.Sound.{Means, is_wrong, is_bad, is_last, is_ended, is_field, is_line, from_start, sound, wrong-refusal, bad-refusal}
+use Rattle.steps.proofs.Faults.{field-refused}
 use Rattle.steps.proofs.Complete.{set, at_end, fields, field-then, break-stops, break-ending}
 
 -- the fields of a record, and of j before them
@@ -63,7 +62,26 @@ abbrev alone_of : {d : Dialect} {g h : Bytes} → LineEnd d g h → ℕ
 alone_of LineEnd.end = 0
 alone_of (LineEnd.broken k) = alone k
 
+-- a piece of nothing leaves nothing
+cons-nil : {b : ℕ} {f : Bytes} → b ∷ f ≡ [] → ⊥
+cons-nil e = let z : ◌≡◌ {A = ℕ} 0 1 = cc in omega arith
+
 module _ (d : Dialect) where
+  open-nil : {f g : Bytes} {c : Content} → Open d f c g → f ≡ [] → ⊥
+  open-nil (opened e k) n = cons-nil n
+
+  field-nil : {g : Bytes} {c : Content} → Field d [] c g → g ≡ []
+  field-nil (Field.bare Blanks.none Bare.none u Blanks.none) = refl
+  field-nil (Field.quoted Blanks.none (closed o e) y) = absurd (open-nil o refl)
+
+  record-nil : {g : Bytes} {cs : List Content} → Record d [] cs g → g ≡ []
+  record-nil (Record.one p) = field-nil p
+  record-nil (Record.more p e r) = absurd (cons-nil (field-nil p))
+
+  break-nil : {g h : Bytes} → Break d g h → g ≡ [] → ⊥
+  break-nil (Break.crlf e e') n = cons-nil n
+  break-nil (Break.lf_alone e t) n = cons-nil n
+
   judge-field :
       {b : ℕ} {f g : Bytes} {c : Content} (w : Width) (j : ℕ) (p : Bytes) (q : Field d f c (b ∷ g)) → class_of d b ≡ delimiter
       → judge d w j p (run d f start [])
@@ -200,8 +218,9 @@ module _ {d : Dialect} where
 
   field-declined :
       {n : ℕ} {f found named : Bytes} (w : Width) (j : ℕ) → FieldRefusal d n f found named → judge d w j f (run d f start []) ≡ declined n found named
-  field-declined {f} w j (fault x) = ap (judge d w j f) (fault-refused d x)
-  field-declined w j (refusal_9 p e l) = long-declined w j p e l
+  field-declined w j x =
+      field-refused d (λ n f found named. judge d w j f (run d f start []) ≡ declined n found named)
+      (λ n f found named e. ap (judge d w j f) e) (λ f g c p e l. long-declined w j p e l) x
 
   record-declined :
       {n : ℕ} {f g found named : Bytes} {cs : List Content} (w : Width) → Fields d f cs g → Every Fits cs → FieldRefusal d n g found named
@@ -250,6 +269,12 @@ data Opens (d : Dialect) (w : Width) : ℕ → Bytes → Judged → Type 0 where
       → Opens d w j f (declined n found named)
 
 module _ {d : Dialect} where
+  -- no file of records is empty
+  pub file-nil : {t : Table} {e : Ending} → File d [] t e → LastBreak e → ⊥
+  file-nil (File.one r) l = l
+  file-nil (File.ended r k) l = break-nil d k (record-nil d r)
+  file-nil (File.more r k p) l = break-nil d k (record-nil d r)
+
   reads_more :
       {b m l i k : ℕ} {f g h : Bytes} {cs : List Content} {t : Table} {w : Width} (r : Record d (b ∷ f) cs g) (e : LineEnd d g h)
       → Every Fits cs → T (agrees d w (length cs)) → Reads d (settled w (length cs)) h t i k
@@ -280,7 +305,7 @@ module _ {d : Dialect} where
   nothing-wrong (here (in_record r t x)) =
       let z : ◌≡◌ {A = ℕ} 0 1 = cc (record-declined any r t x, read_none d any) in
       omega arith
-  nothing-wrong (later r k t u x) = break-nil k (record-nil r)
+  nothing-wrong (later r k t u x) = break-nil d k (record-nil d r)
 
   -- a field that ends its record
   opens-above :
@@ -304,8 +329,8 @@ module _ {d : Dialect} where
       (λ t. opens_wrong Fields.none tt (refusal_9 p (lined e) (fits-false c t))))
 
   opens : {f : Bytes} {r : Trace} (w : Width) (j : ℕ) → Means d start [] f r → Opens d w j f (judge d w j f r)
-  opens w j (is_wrong x) = opens_wrong Fields.none tt (fault (wrong-fault x))
-  opens w j (is_bad (from_start p q) x) = opens_wrong Fields.none tt (fault (bad-fault p x))
+  opens w j (is_wrong x) = opens_wrong Fields.none tt (wrong-refusal x)
+  opens w j (is_bad (from_start p q) x) = opens_wrong Fields.none tt (bad-refusal p x)
   opens w j (is_last (from_start p q)) = opens-end (taken [] 0 0) p q LineEnd.end refl reads_none
   opens w j (is_ended (from_start p q) k o) = opens-end (taken [] 0 0) p q (LineEnd.broken k) o reads_none
   opens {f} w j (is_field (from_start {c} p q) e m) =

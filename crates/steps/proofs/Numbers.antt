@@ -11,11 +11,11 @@ use Rattle.format.proofs.Classes.{special_class}
 use Rattle.steps.specs.Steps.{Form, start, lead, bare, quoted, shut, tail, cr, is_in_quotes, is_behind_cr, is_blank}
 use Rattle.steps.specs.Numbers.{form_number, class_number, form_of, class_from}
 
-abbrev pub six+ : ℕ → ℕ
+abbrev six+ : ℕ → ℕ
 six+ n = suc (suc (suc (suc (suc (suc n)))))
 
 -- what holds of 0 to 5 and of each number from 6 on holds of every number
-pub by_number : (P : ℕ → Type 0) → P 0 → P 1 → P 2 → P 3 → P 4 → P 5 → ((n : ℕ) → P (six+ n)) → (n : ℕ) → P n
+by_number : (P : ℕ → Type 0) → P 0 → P 1 → P 2 → P 3 → P 4 → P 5 → ((n : ℕ) → P (six+ n)) → (n : ℕ) → P n
 by_number P p₀ p₁ p₂ p₃ p₄ p₅ p zero = p₀
 by_number P p₀ p₁ p₂ p₃ p₄ p₅ p (suc zero) = p₁
 by_number P p₀ p₁ p₂ p₃ p₄ p₅ p (suc (suc zero)) = p₂

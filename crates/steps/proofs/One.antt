@@ -12,7 +12,7 @@ use Rattle.format.specs.Table.{Bytes, Content, Table}
 use Rattle.format.specs.Dialect.{Dialect, text, quote, CR, LF, class_of}
 use Rattle.format.specs.Grammar.{padded, Blanks, Bare, Open, opened, closed, Field, Record, Break}
 use Rattle.format.specs.Count.{dropped, alone}
-use Rattle.format.specs.Refusal.{refusal_5, refusal_6, refusal_8, Fields, Records}
+use Rattle.format.specs.Refusal.{FieldRefusal, refusal_5, refusal_6, refusal_8, Fields, Records}
 use Rattle.format.specs.SoFar.{Begun, SoFar, so_far}
 use Rattle.format.proofs.Classes.{some-text, quote-is}
 use Rattle.format.proofs.Grow.{blanks-grow, open-grow, quoted-grow, field-grow, field_cut}
@@ -21,7 +21,7 @@ use Rattle.steps.specs.Numbers.{class_number}
 use Rattle.steps.specs.Model.{Cell, cell, Trace, refused, last, field, line, ending, run}
 use Rattle.steps.proofs.Acts.{run_end}
 use Rattle.steps.proofs.Complete.{set, at_end, fields, field-then, break-stops, break-ending}
-use Rattle.steps.proofs.Faults.{fault-refused}
+use Rattle.steps.proofs.Faults.{field-refused}
 use Rattle.steps.proofs.Forms.{At, at_bare, at_quoted, first-text, put-bare, put-quoted}
 
 -- the records that are closed, the fields of the next one, and the rest that begins with the field that has begun
@@ -70,11 +70,14 @@ module _ (d : Dialect) where
   whole : {h : Bytes} {c : Content} (p : Field d h c []) → trace h ≡ last (cell c (dropped h c [] p)) 0 []
   whole {h} {c} p = fields d p at_end ∙ ap (set (cell c (dropped h c [] p))) (run_end d tail [])
 
+  faulty : {n : ℕ} {f found named : Bytes} → FieldRefusal d n f found named → (n ≡ 9 → ⊥) → trace f ≡ refused n found named
+  faulty = field-refused d (λ n f found named. (n ≡ 9 → ⊥) → trace f ≡ refused n found named) (λ n f a q e u. e) (λ f g c p e l u. absurd (u refl))
+
   open-trace : {h q : Bytes} {c : Content} → Blanks d h q → Open d q c [] → trace h ≡ refused 8 [] q
-  open-trace x k = fault-refused d (refusal_8 x k)
+  open-trace x k = faulty (refusal_8 x k) (λ e. omega arith)
 
   cr-trace : {b : ℕ} {h : Bytes} {c : Content} → Field d h c (b ∷ []) → class_of d b ≡ CR → trace h ≡ refused 6 (b ∷ []) (b ∷ [])
-  cr-trace p e = fault-refused d (refusal_6 p e tt)
+  cr-trace p e = faulty (refusal_6 p e tt) (λ e. omega arith)
 
   -- blanks alone are a field, of no content
   nothing : {h : Bytes} → Blanks d h [] → Field d h [] []
@@ -124,10 +127,10 @@ module _ (d : Dialect) where
         bare-longer h (a ∷ c) n (put-bare d b (at_bare x k p y q) e)
         (omega (arith, length-append (a ∷ c) (replicate n 0x20 ++ more), length-append (replicate n 0x20) more, length-replicate {A = ℕ} n 0x20))
     begun-held {h} {c} (Begun.inside x k) = open-longer h c (put-quoted d b (at_quoted x k) text tt e)
-    begun-held (Begun.shut x k y) = rw (fault-refused d (refusal_5 (blanks-grow d more x) (quoted-grow d more k) (blanks-grow d more y) e))
+    begun-held (Begun.shut x k y) = rw (faulty (refusal_5 (blanks-grow d more x) (quoted-grow d more k) (blanks-grow d more y) e) (λ e. omega arith))
     begun-held (Begun.before_cr p i) =
         let no_lf : class_of d b ≡ LF → ⊥ = λ l. let z : class_number text ≡ class_number LF = ap class_number (sym e ∙ l) in omega arith in
-        rw (fault-refused d (refusal_6 (field-grow d more p) i no_lf))
+        rw (faulty (refusal_6 (field-grow d more p) i no_lf) (λ e. omega arith))
 
   -- what is closed before it
   fields-parts : {g h : Bytes} {cs : List Content} → Fields d g cs h → parts h (trace h) ≡ part [] [] h → parts g (trace g) ≡ part [] cs h

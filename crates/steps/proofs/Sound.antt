@@ -8,7 +8,7 @@ use lib.Dec.{T}
 use Rattle.format.specs.Table.{Bytes, Content, last_of}
 use Rattle.format.specs.Dialect.{lf, Dialect, Class, text, blank, delimiter, quote, CR, LF, forbidden, class_of}
 use Rattle.format.specs.Grammar.{padded, Blanks, Bare, Inside, opened, closed, Field, Break}
-use Rattle.format.specs.Refusal.{NoLf, FieldFault, refusal_3, refusal_3_inside, refusal_4, refusal_5, refusal_5_quote, refusal_6, refusal_7, refusal_8}
+use Rattle.format.specs.Refusal.{NoLf, FieldRefusal, refusal_3, refusal_3_inside, refusal_4, refusal_5, refusal_5_quote, refusal_6, refusal_7, refusal_8}
 use Rattle.format.specs.Count.{blank_count, dropped, alone}
 use Rattle.format.proofs.Classes.{droppable, text-ordinary, unpadded, quoted_class, inside-byte}
 use Rattle.steps.specs.Steps.{Form, start, bare, quoted, shut, tail, cr, step_of}
@@ -341,20 +341,20 @@ sound d (b ∷ f) =
       at_cr = λ k a p g e. row-cr d b f s y k a p (class_of d b) refl g e;
     }
 
--- what is wrong in a field is a fault of that field
-open-fault :
+-- a fault inside a field is a refusal of that field
+open-refusal :
     {d : Dialect} {a n : ℕ} {f g found named : Bytes}
-    → Blanks d f (a ∷ g) → class_of d a ≡ quote → Wrong d quoted (a ∷ g) n g found named → FieldFault d n f found named
-open-fault w e (in_3 k q) = refusal_3_inside w (opened e k) q
-open-fault w e (in_8 k) = refusal_8 w (opened e k)
-open-fault w e (in_5 k q x t) = refusal_5 w (closed (opened e k) q) x t
-open-fault w e (in_5_quote k q v x t) = refusal_5_quote w (closed (opened e k) q) v x t
+    → Blanks d f (a ∷ g) → class_of d a ≡ quote → Wrong d quoted (a ∷ g) n g found named → FieldRefusal d n f found named
+open-refusal w e (in_3 k q) = refusal_3_inside w (opened e k) q
+open-refusal w e (in_8 k) = refusal_8 w (opened e k)
+open-refusal w e (in_5 k q x t) = refusal_5 w (closed (opened e k) q) x t
+open-refusal w e (in_5_quote k q v x t) = refusal_5_quote w (closed (opened e k) q) v x t
 
-pub wrong-fault : {d : Dialect} {n : ℕ} {p f found named : Bytes} → Wrong d start p n f found named → FieldFault d n f found named
-wrong-fault (start_4 w t k q) = refusal_4 w t k q
-wrong-fault (start_open w e z) = open-fault w e z
+pub wrong-refusal : {d : Dialect} {n : ℕ} {p f found named : Bytes} → Wrong d start p n f found named → FieldRefusal d n f found named
+wrong-refusal (start_4 w t k q) = refusal_4 w t k q
+wrong-refusal (start_open w e z) = open-refusal w e z
 
-pub bad-fault : {d : Dialect} {n : ℕ} {f a : Bytes} {c : Content} → Field d f c a → Bad d n a → FieldFault d n f a a
-bad-fault p (bad_3 e) = refusal_3 p e
-bad-fault p (bad_6 e l) = refusal_6 p e l
-bad-fault p (bad_7 e l) = refusal_7 p e l
+pub bad-refusal : {d : Dialect} {n : ℕ} {f a : Bytes} {c : Content} → Field d f c a → Bad d n a → FieldRefusal d n f a a
+bad-refusal p (bad_3 e) = refusal_3 p e
+bad-refusal p (bad_6 e l) = refusal_6 p e l
+bad-refusal p (bad_7 e l) = refusal_7 p e l

@@ -1,6 +1,5 @@
 -- `reader::read_accepted` meets its contract.
-use Rattle.pieces.proofs.Stands.{Takes, accepts-it}
-use Rattle.reader.proofs.Outcomes.{lacks-text, lacks-ends, lacks-rows, has_room, fills}
+use Rattle.reader.proofs.Outcomes.{Takes, accepts-it, lacks-text, lacks-ends, lacks-rows, has_room, fills}
 use native.Mathlib.Omega.{arith}
 use borrow.Author.Rules.{rules}
 use Rattle.reader.proofs.read_accepted.Statement.{statement}

@@ -1,8 +1,8 @@
--- `pieces::checked` meets its contract.
+-- `reader::checked` meets its contract.
 use mathlib.Core.List.{[]}
 use borrow.Author.Rules.{rules}
-use Rattle.pieces.proofs.checked.Statement.{statement}
-use Rattle.pieces.proofs.checked.Tie as tie
+use Rattle.reader.proofs.checked.Statement.{statement}
+use Rattle.reader.proofs.checked.Tie as tie
 
 start-requires : tie.Need-start-requires
 start-requires c κs = search rules
