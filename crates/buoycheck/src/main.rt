@@ -1,5 +1,8 @@
 // The check program: reads standard input as a strict file, through a buffer of 65,536 bytes, and
 // prints the eight house lines. It stops reading once the file is too long for good.
+
+#![tactic(auto)]
+
 use format::{Answer, Place, Totals};
 
 fn main() {

@@ -2,6 +2,9 @@
 // dialect, the reader's answer and the check's; then the writer's lines. An accepted file shows records,
 // fields, text length and report; a refused one its number, then line, column and byte. The stored
 // output, with which this is compared, has the rules' values.
+
+#![tactic(auto)]
+
 use format::{Answer, Place, Totals, Written};
 
 fn main() {

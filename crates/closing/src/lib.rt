@@ -1,5 +1,8 @@
 // The end of a file that was read as it came in: the stream is closed. The crate `output` has the state,
 // and says what the close does to it and what that means.
+
+#![tactic(auto)]
+
 ghost use Rattle.std.specs.Prelude.{◌≡◌};
 ghost use Rattle.output.specs.Promises.{Closed};
 

@@ -1,4 +1,7 @@
 // What C gets: structs of numbers, made of the answers to a write, a search and a show.
+
+#![tactic(auto)]
+
 ghost use Rattle.std.specs.Prelude.{◌≡◌, [], ◌∷◌, min};
 ghost use Rattle.format.specs.Answer.{writer_numbers, search_numbers, part_numbers};
 ghost use Rattle.format.specs.Memory.{largest32};

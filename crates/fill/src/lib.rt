@@ -2,6 +2,9 @@
 // buffers.
 //
 // Each call tests that what it writes fits, and else writes nothing: specs/Put.antt.
+
+#![tactic(auto)]
+
 ghost use Rattle.std.specs.Prelude.{◌≡◌, true, cond, not, ◌&&◌, ◌||◌, ◌+◌, ◌-◌, ◌<◌, ◌≤◌, min, leb, ltb, length, set, replicate, take, drop};
 ghost use Rattle.std.proofs.lemmas.List.Edits.{sets};
 ghost use Rattle.format.specs.Memory.{largest32};

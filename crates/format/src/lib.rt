@@ -2,6 +2,8 @@
 //
 // specs/Answer.antt gives the rules' number and values for each answer.
 
+#![tactic(auto)]
+
 // The house limits, in bytes: a field's content, and a file.
 pub const CONTENT_LIMIT: u32 = 65535;
 

@@ -1,4 +1,7 @@
 // What stands between quotes, written at once: content in every dialect whose delimiter is no quote.
+
+#![tactic(auto)]
+
 ghost use Rattle.std.specs.Prelude.{◌≡◌, Bool, true, ℕ, ◌<◌, List, length};
 ghost use Rattle.format.specs.Dialect.{Dialect};
 ghost use Rattle.steps.specs.Steps.{quoted};

@@ -2,6 +2,9 @@
 //
 // specs/Out.antt says what is out, by the grammar; specs/Stream.antt what a call does to any state;
 // specs/Promises.antt what a state stands for, and so what the calls of the crate `stream` mean.
+
+#![tactic(auto)]
+
 ghost use Rattle.std.specs.Prelude.{◌+◌, ◌-◌, ◌≤◌, min, ◌≡◌, ◌&&◌};
 ghost use Rattle.format.specs.House.{content_limit};
 ghost use Rattle.output.specs.Stream.{onward, shown, is_over, putsText, endsField, endsRecord, byteLeft, blanksDue, answer_of, closedBy};

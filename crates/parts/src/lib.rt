@@ -1,5 +1,8 @@
 // Many bytes of a piece, taken by a stream at once: they go through the check, and if that shows no refusal
 // the second walk of the reader writes what they put out.
+
+#![tactic(auto)]
+
 ghost use Rattle.std.specs.Prelude.{◌-◌, ◌≤◌, ◌≡◌, true, false, length, take, drop};
 ghost use Rattle.std.proofs.lemmas.List.Edits.{sets};
 ghost use Rattle.fill.specs.Walk.{raised};

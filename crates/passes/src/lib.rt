@@ -3,6 +3,9 @@
 // A pass asks nothing of its caller and has one promise, `Leads` in specs/Passes.antt: the bytes that are
 // left lead from the state that it gives to where all of them led before. How far it goes is its own
 // affair.
+
+#![tactic(auto)]
+
 ghost use Rattle.std.specs.Prelude.{◌≤◌, length, true, ◌≡◌};
 ghost use Rattle.steps.specs.Steps.{bare, quoted};
 ghost use Rattle.steps.specs.Numbers.{form_number};

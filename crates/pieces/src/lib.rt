@@ -2,6 +2,9 @@
 //
 // The state goes in and comes back by value. What a byte does to it is in the crate `state`, what many do
 // at once in `passes`; specs/Answers.antt says what a state stands for, and so what the answers mean.
+
+#![tactic(auto)]
+
 ghost use Rattle.std.specs.Prelude.{true, ◌≡◌};
 ghost use Rattle.format.specs.Place.{place};
 ghost use Rattle.format.specs.Answer.{refused_by};

@@ -2,6 +2,9 @@
 //
 // A place holds counters alone, so that any numbers are one. specs/Counters.antt says what each of
 // these does, for every place.
+
+#![tactic(auto)]
+
 ghost use Rattle.std.specs.Prelude.{min, ◌≡◌};
 ghost use Rattle.format.specs.Place.{place, nowhere};
 ghost use Rattle.places.specs.Counters.{counter_limit, plus, moved, along, spot};

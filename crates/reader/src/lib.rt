@@ -2,6 +2,9 @@
 //
 // The check goes over the whole file first, then the room is tested, and only then is anything
 // written, by a second walk that cannot fail. specs/Read.antt says what a read promises.
+
+#![tactic(auto)]
+
 ghost use Rattle.std.specs.Prelude.{◌≡◌, ◌≤◌, length};
 ghost use Rattle.format.specs.Dialect.{dialect};
 ghost use Rattle.format.specs.Filling.{over};

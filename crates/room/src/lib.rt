@@ -1,5 +1,8 @@
 // How many bytes of a piece can be taken at once: as many as have room for whatever they put out, and let
 // no counter stop. proofs/Window.antt shows what such bytes put out.
+
+#![tactic(auto)]
+
 ghost use Rattle.std.specs.Prelude.{◌-◌, min, ◌≡◌};
 ghost use Rattle.room.specs.Room.{part_of, room_for};
 

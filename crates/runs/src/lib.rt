@@ -1,6 +1,9 @@
 // Runs of bytes that a walk over a file may pass at once: how long each is from a place on.
 //
 // specs/Runs.antt says what a run is. Blocks are judged by loops that the compiler makes vectors of.
+
+#![tactic(auto)]
+
 ghost use Rattle.std.specs.Prelude.{◌≡◌, true, cond, ℕ, ◌+◌, ◌*◌, ◌/◌, ◌<◌, ◌≤◌, leb, length, get_or, drop};
 ghost use Rattle.format.specs.Dialect.{dialect};
 ghost use Rattle.format.specs.Place.{line_feeds, since_lf};

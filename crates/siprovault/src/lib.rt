@@ -1,5 +1,8 @@
 // The C face: each export is a call of a proved function, with that function's promise. The header
 // include/siprovault.h says the same in words. A slice is a pointer and a length there.
+
+#![tactic(auto)]
+
 ghost use Rattle.pieces.specs.Answers.{Started, Fed, Asked};
 ghost use Rattle.output.specs.Promises.{Started as StreamStarted, Fed as StreamFed, Closed as StreamClosed};
 ghost use Rattle.reader.specs.Read.{ReadOutcome};

@@ -2,6 +2,9 @@
 //
 // A state is turned into a walk, the walk goes on by words of marks, and only where it ends is it turned
 // into a state again. specs/Walk.antt says what a walk stands for.
+
+#![tactic(auto)]
+
 ghost use Rattle.std.specs.Prelude.{◌+◌, ◌≤◌, ◌<◌, true, ◌≡◌, length, get_or};
 ghost use Rattle.format.specs.Dialect.{dialect};
 ghost use Rattle.format.specs.Memory.{largest32};

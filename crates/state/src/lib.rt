@@ -3,6 +3,9 @@
 // It goes in and comes back by value, and holds numbers alone, so that any bit pattern is a state and no
 // function here asks anything of its caller. specs/Check.antt says what a byte does to it, for every
 // state.
+
+#![tactic(auto)]
+
 ghost use Rattle.std.specs.Prelude.{◌≡◌};
 ghost use Rattle.format.specs.Dialect.{only_wide};
 ghost use Rattle.steps.specs.Model.{is_valid};

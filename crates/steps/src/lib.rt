@@ -2,6 +2,9 @@
 //
 // specs/Steps.antt has the table and what a byte does by it, specs/Numbers.antt the numbers that the
 // code has for forms, classes and entries.
+
+#![tactic(auto)]
+
 ghost use Rattle.std.specs.Prelude.{min, ◌≡◌};
 ghost use Rattle.format.specs.Dialect.{lf, blanks, ragged, bytes, names, dialect, is_wide, class_of};
 ghost use Rattle.steps.specs.Steps.{carry, step_of};

@@ -3,6 +3,9 @@
 //
 // The crate `output` has the state, and says what a call does to it and what that means; `parts` takes
 // many bytes of a piece at once, and `taking` one.
+
+#![tactic(auto)]
+
 ghost use Rattle.output.specs.Promises.{Started, Fed};
 ghost use Rattle.taking.specs.Walk.{stop_at, Grew};
 

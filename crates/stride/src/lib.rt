@@ -2,6 +2,9 @@
 //
 // Nothing is judged here. fill's specs/Fill.antt says what there is to write, as functions of the bytes
 // ahead, and its specs/Walk.antt what it means to have written it from one place to another.
+
+#![tactic(auto)]
+
 ghost use Rattle.std.specs.Prelude.{◌≡◌, Bool, true, false, cond, ◌+◌, ◌<◌, ◌≤◌, ltb, length, get_or, set, replicate};
 ghost use Rattle.std.proofs.lemmas.List.Edits.{sets};
 ghost use Rattle.format.specs.Dialect.{dialect};

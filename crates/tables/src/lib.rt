@@ -1,4 +1,7 @@
 // Tables in memory: text, ends and rows, as the reader writes them.
+
+#![tactic(auto)]
+
 ghost use Rattle.std.specs.Prelude.{◌≡◌, [], ◌≤◌, ◌<◌, length, get_or};
 ghost use Rattle.format.specs.Memory.{WellFormed, parts, start_of};
 ghost use Rattle.format.specs.Answer.{search_numbers, part_numbers};

@@ -2,6 +2,9 @@
 //
 // The crate `output` says what a call does to a state; specs/Walk.antt what the functions here promise one
 // another, by how far the call has come.
+
+#![tactic(auto)]
+
 ghost use Rattle.std.specs.Prelude.{◌+◌, ◌-◌, ◌≤◌, ◌<◌, min, ◌≡◌, true, false, cond, ◌||◌, ◌++◌, length, replicate, leb};
 ghost use Rattle.std.proofs.lemmas.List.Edits.{sets};
 ghost use Rattle.output.specs.Stream.{is_over, onward, when};

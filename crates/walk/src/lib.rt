@@ -2,6 +2,9 @@
 //
 // Nothing is judged here. fill's specs/Fill.antt says what there is to write, as functions of the bytes
 // ahead, and its specs/Walk.antt what it means to have written it from one place to another.
+
+#![tactic(auto)]
+
 ghost use Rattle.std.specs.Prelude.{◌≡◌, Bool, true, ℕ, ◌≤◌, List, length};
 ghost use Rattle.format.specs.Dialect.{Dialect, dialect};
 ghost use Rattle.steps.specs.Steps.{start};

@@ -2,6 +2,9 @@
 // file goes from mark to mark.
 //
 // specs/Words.antt says what a word is, and what the tables mark.
+
+#![tactic(auto)]
+
 ghost use Rattle.std.specs.Prelude.{◌≡◌, ◌+◌, ◌-◌, ◌/◌, ◌^◌, ◌<◌, ◌≤◌, length, take, drop};
 ghost use Rattle.format.specs.Dialect.{dialect};
 ghost use Rattle.runs.specs.Runs.{is_inner};

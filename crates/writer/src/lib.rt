@@ -2,6 +2,9 @@
 //
 // All is judged first, then the length is added up, and only then is anything written, by a second
 // walk over the fields. specs/Write.antt says what a write promises.
+
+#![tactic(auto)]
+
 ghost use Rattle.std.specs.Prelude.{◌≡◌, ◌+◌, ◌≤◌, length, get_or};
 ghost use Rattle.std.proofs.Math.Seq.{slice};
 ghost use Rattle.std.proofs.lemmas.List.Edits.{sets};
