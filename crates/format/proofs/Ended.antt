@@ -85,6 +85,7 @@ module _ (d : Dialect) (valid : T (delimits d.delimiter_byte)) where
   -- a record that no line break ends
   open-last : {cs : List Content} (x : ℕ) (f : Bytes) → LastBreak (without_break f) → Record d f cs [] → Other (last_of x f)
   unfolding last_of
+  open-last {cs} x [] n r = elim n [ ]
   open-last x (b ∷ f) n r = let l = record-last 0 r in λ z. l.other (λ u. omega arith) (sym l.same ∙ z)
 
   -- and one that a line break ends

@@ -7,7 +7,7 @@ use mathlib.Core.Logic.{◌⊎◌, inl, inr, ◌↔◌}
 use native.Mathlib.Omega.{arith}
 use lib.Dec.{eqb}
 use Rattle.format.specs.Table.{Bytes, Content, Table, Ending}
-use Rattle.format.specs.Dialect.{Class, text, delimiter, quote, CR, LF, forbidden, strict, class_of}
+use Rattle.format.specs.Dialect.{Class, text, blank, delimiter, quote, CR, LF, forbidden, strict, class_of}
 use Rattle.format.specs.Grammar.{padded, Blanks, Bare, Inside, Open, Quoted, Field, Record, Break, File}
 use Rattle.format.specs.Rfc4180
 use Rattle.format.specs.Rfc4180.{Textdata, NonEscaped, InEscaped}
@@ -33,6 +33,7 @@ module _ (b : ℕ) where
     where
       go : (x : Class) → TextRange b → Strict b x → x ≡ text
       go text p v = refl
+      go blank p v = elim v [ ]
       go delimiter p (strict_comma q) = absurd (omega arith)
       go quote p (strict_quote q) = absurd (omega arith)
       go CR p (strict_CR q) = absurd (omega arith)
@@ -45,6 +46,7 @@ module _ (b : ℕ) where
     where
       go : (x : Class) → (x ≡ forbidden → ⊥) → Strict b x → StrictByte b
       go text free (strict_text k) = let p = textdata-range k in inl (p.low, p.high)
+      go blank free v = elim v [ ]
       go delimiter free (strict_comma q) = inl (omega arith)
       go quote free (strict_quote q) = inl (omega arith)
       go CR free (strict_CR q) = inr (inl q)
@@ -93,6 +95,7 @@ byte-escaped {f} {c} b n m q = go (class_of strict b) n m (strict-class b)
   where
     go : (x : Class) → (x ≡ quote → ⊥) → (x ≡ forbidden → ⊥) → Strict b x → InEscaped (b ∷ f) (b ∷ c)
     go text n m (strict_text k) = InEscaped.TEXTDATA k q
+    go blank n m v = elim v [ ]
     go delimiter n m (strict_comma e) = rw e (InEscaped.COMMA q)
     go quote n m v = absurd (n refl)
     go CR n m (strict_CR e) = rw e (InEscaped.CR q)
