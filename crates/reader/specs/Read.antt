@@ -5,7 +5,7 @@ use Rattle.format.specs.declared.Place.{Place}
 use Rattle.format.specs.declared.Answer.{Answer}
 use Rattle.format.specs.Table.{Bytes, Table}
 use Rattle.format.specs.Memory.{text_of, ends_of, rows_of}
-use Rattle.format.specs.Place.{place, nowhere}
+use Rattle.format.specs.Place.{nowhere}
 use Rattle.format.specs.Reading.{Accepted, Refused}
 use Rattle.format.specs.Answer.{accepted_as, refused_by}
 use Rattle.format.specs.Filling.{over}
