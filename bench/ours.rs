@@ -1,5 +1,5 @@
-//! The library, called from Rust through its face (include/siprovault.rs); on x86-64 it is the archive that
-//! ships, elsewhere the same module compiled for this machine (tools/native-staticlib).
+//! The library, called from Rust through its face (include/siprovault.rs), in the archive that ships
+//! (tools/native-staticlib).
 
 use crate::ordinary::Answer;
 use crate::other::Counts;

@@ -1,6 +1,6 @@
 /*
  * siprovault.h: a CSV reader and writer, proved against RFC 4180's grammar and the house rules.
- * Link with libsiprovault.a (rt staticlib siprovault), which is for x86-64. C99 and C++.
+ * Link with libsiprovault.a (tools/staticlib siprovault), which is for x86-64. C99 and C++.
  *
  * No call keeps anything, allocates anything or fails by a crash: any bytes, any dialect, any buffers.
  * Bad input is refused by number. A refused call leaves every buffer as it was, byte for byte; an

@@ -4,54 +4,50 @@
 #![tactic(auto)]
 
 use format::{Answer, Place, Totals};
+use std::io;
+use std::io::Read;
 
-fn main() {
-    let mut space = io::large_buffer();
-    let buffer: &mut [u8] = &mut space;
+fn main(rt: HostRuntime) -> io::Result<()> {
+    let mut buffer = [0u8; 65536];
     let mut check = pieces::start(b',', 0);
     let mut total: usize = 0;
     while total <= format::FILE_LIMIT as usize {
-        let got = libc::read(0, buffer);
-        if got < 0 {
-            complain();
-            return;
-        }
-        let n = io::count(got, buffer);
+        let Ok(n) = rt.stdin().read(&mut buffer) else {
+            return complain(&rt);
+        };
         if n == 0 {
             break;
         }
         check = pieces::feed(check, &buffer[..n]);
         total += n;
     }
-    print(pieces::ask(check));
+    print(&rt, pieces::ask(check))
 }
 
 // A read error is no end of file: nothing on standard output, one line on standard error.
-fn complain() {
-    io::write_all(2, b"buoycheck: standard input cannot be read\n");
+fn complain(rt: &impl Eprint) -> io::Result<()> {
+    eprintln!(rt; "buoycheck: standard input cannot be read")
 }
 
-fn print(answer: Answer) {
-    print_line(b"refusal=", answer.refusal as u64);
-    print_place(answer.place);
-    print_totals(answer.totals);
+fn print(rt: &impl Print, answer: Answer) -> io::Result<()> {
+    print_line(rt, "refusal=", answer.refusal)?;
+    print_place(rt, answer.place)?;
+    print_totals(rt, answer.totals)
 }
 
-fn print_place(place: Place) {
-    print_line(b"line=", place.line.0 as u64);
-    print_line(b"column=", place.column.0 as u64);
-    print_line(b"byte=", place.byte.0 as u64);
+fn print_place(rt: &impl Print, place: Place) -> io::Result<()> {
+    print_line(rt, "line=", place.line.0)?;
+    print_line(rt, "column=", place.column.0)?;
+    print_line(rt, "byte=", place.byte.0)
 }
 
-fn print_totals(totals: Totals) {
-    print_line(b"records=", totals.records as u64);
-    print_line(b"fields=", totals.fields.0 as u64);
-    print_line(b"text=", totals.text as u64);
-    print_line(b"report=", totals.report as u64);
+fn print_totals(rt: &impl Print, totals: Totals) -> io::Result<()> {
+    print_line(rt, "records=", totals.records)?;
+    print_line(rt, "fields=", totals.fields.0)?;
+    print_line(rt, "text=", totals.text)?;
+    print_line(rt, "report=", totals.report)
 }
 
-fn print_line(name: &[u8], n: u64) {
-    io::write_all(1, name);
-    io::print_decimal(1, n);
-    io::write_all(1, b"\n");
+fn print_line(rt: &impl Print, name: &str, n: u32) -> io::Result<()> {
+    println!(rt; "{name}{n}")
 }

@@ -6,195 +6,209 @@
 #![tactic(auto)]
 
 use format::{Answer, Place, Totals, Written};
+use std::io;
+use std::io::Write;
 
-fn main() {
-    accepted_files();
-    refused_files();
-    lenient_files();
-    long_contents();
-    written_files();
+fn main(rt: HostRuntime) -> io::Result<()> {
+    accepted_files(&rt)?;
+    refused_files(&rt)?;
+    lenient_files(&rt)?;
+    long_contents(&rt)?;
+    written_files(&rt)
 }
 
-fn accepted_files() {
-    strict(b"empty", b"");
-    strict(b"\xE2\x8F\x8E", b"\r\n");
-    strict(b"a\xE2\x8F\x8E\xE2\x8F\x8E", b"a\r\n\r\n");
-    strict(b"a\xE2\x8F\x8E\"\"", b"a\r\n\"\"");
-    strict(b"a,", b"a,");
-    strict(b"\"a\"\"b\"", b"\"a\"\"b\"");
-    strict(b"\"a\xE2\x8F\x8Eb\",c\xE2\x8F\x8E", b"\"a\r\nb\",c\r\n");
+fn accepted_files(rt: &impl Print) -> io::Result<()> {
+    strict(rt, "empty", b"")?;
+    strict(rt, "⏎", b"\r\n")?;
+    strict(rt, "a⏎⏎", b"a\r\n\r\n")?;
+    strict(rt, "a⏎\"\"", b"a\r\n\"\"")?;
+    strict(rt, "a,", b"a,")?;
+    strict(rt, "\"a\"\"b\"", b"\"a\"\"b\"")?;
+    strict(rt, "\"a⏎b\",c⏎", b"\"a\r\nb\",c\r\n")
 }
 
-fn refused_files() {
-    strict(b"a\"b", b"a\"b");
-    strict(b"\"a\"b", b"\"a\"b");
-    strict(b"a CR b", b"a\rb");
-    strict(b"a LF", b"a\n");
-    strict(b"a,b\xE2\x8F\x8E\"c", b"a,b\r\n\"c");
-    strict(b"a,b\xE2\x8F\x8E\xE2\x8F\x8E", b"a,b\r\n\r\n");
-    strict(b" a , \"b\" ", b" a , \"b\" ");
+fn refused_files(rt: &impl Print) -> io::Result<()> {
+    strict(rt, "a\"b", b"a\"b")?;
+    strict(rt, "\"a\"b", b"\"a\"b")?;
+    strict(rt, "a CR b", b"a\rb")?;
+    strict(rt, "a LF", b"a\n")?;
+    strict(rt, "a,b⏎\"c", b"a,b\r\n\"c")?;
+    strict(rt, "a,b⏎⏎", b"a,b\r\n\r\n")?;
+    strict(rt, " a , \"b\" ", b" a , \"b\" ")
 }
 
-fn lenient_files() {
-    lenient(b"a LF", b"a\n", b"lf", 1);
-    lenient(b"a,b\xE2\x8F\x8Ec", b"a,b\r\nc", b"ragged", 4);
-    lenient(b" a , \"b\" ", b" a , \"b\" ", b"blanks", 2);
+fn lenient_files(rt: &impl Print) -> io::Result<()> {
+    lenient(rt, "a LF", b"a\n", "lf", 1)?;
+    lenient(rt, "a,b⏎c", b"a,b\r\nc", "ragged", 4)?;
+    lenient(rt, " a , \"b\" ", b" a , \"b\" ", "blanks", 2)
 }
 
-fn long_contents() {
-    let mut long = io::large_buffer();
+fn long_contents(rt: &impl Print) -> io::Result<()> {
+    let mut long = [0u8; 65536];
     fill(&mut long);
-    around_limit(&long);
+    around_limit(rt, &long)
 }
 
-fn around_limit(long: &[u8]) {
-    let n = io::count(65535, long);
-    strict(b"65,535 times a", &long[..n]);
-    strict(b"65,536 times a", long);
+fn around_limit(rt: &impl Print, long: &[u8]) -> io::Result<()> {
+    let n = long.len().min(65535);
+    strict(rt, "65,535 times a", &long[..n])?;
+    strict(rt, "65,536 times a", long)
 }
 
 fn fill(buffer: &mut [u8]) {
-    let mut i = 0;
-    while i < buffer.len() {
-        buffer[i] = b'a';
-        i += 1;
+    for b in buffer {
+        *b = b'a';
     }
 }
 
-fn strict(name: &[u8], file: &[u8]) {
-    let mut text = io::large_buffer();
-    let mut ends: [u32; 8] = [0; 8];
-    let mut rows: [u32; 8] = [0; 8];
+fn strict(rt: &impl Print, name: &str, file: &[u8]) -> io::Result<()> {
+    let mut text = [0u8; 65536];
+    let mut ends = [0u32; 8];
+    let mut rows = [0u32; 8];
     let answer = reader::read_strict(file, &mut text, &mut ends, &mut rows);
     print_case(
+        rt,
         name,
-        b"strict",
+        "strict",
         answer,
         pieces::ask(pieces::feed(pieces::start(b',', 0), file)),
-    );
+    )
 }
 
-fn lenient(name: &[u8], file: &[u8], dialect: &[u8], leniencies: u8) {
-    let mut text: [u8; 16] = [0; 16];
-    let mut ends: [u32; 8] = [0; 8];
-    let mut rows: [u32; 8] = [0; 8];
+fn lenient(
+    rt: &impl Print,
+    name: &str,
+    file: &[u8],
+    dialect: &str,
+    leniencies: u8,
+) -> io::Result<()> {
+    let mut text = [0u8; 16];
+    let mut ends = [0u32; 8];
+    let mut rows = [0u32; 8];
     let answer = reader::read(file, b',', leniencies, &mut text, &mut ends, &mut rows);
     print_case(
+        rt,
         name,
         dialect,
         answer,
         pieces::ask(pieces::feed(pieces::start(b',', leniencies), file)),
-    );
+    )
 }
 
-fn print_case(name: &[u8], dialect: &[u8], answer: Answer, check: Answer) {
-    io::write_all(1, name);
-    io::write_all(1, b" | ");
-    io::write_all(1, dialect);
-    io::write_all(1, b" | ");
-    print_answer(answer);
-    io::write_all(1, b" | ");
-    print_answer(check);
-    io::write_all(1, b"\n");
+fn print_case(
+    rt: &impl Print,
+    name: &str,
+    dialect: &str,
+    answer: Answer,
+    check: Answer,
+) -> io::Result<()> {
+    print!(rt; "{name} | {dialect} | ")?;
+    print_answer(rt, answer)?;
+    print!(rt; " | ")?;
+    print_answer(rt, check)?;
+    println!(rt; "")
 }
 
-fn print_answer(answer: Answer) {
+fn print_answer(rt: &impl Print, answer: Answer) -> io::Result<()> {
     if answer.refusal == 0 {
-        print_totals(answer.totals);
+        print_totals(rt, answer.totals)
     } else {
-        io::print_decimal(1, answer.refusal as u64);
-        io::write_all(1, b"; ");
-        print_place(answer.place);
+        let n = answer.refusal;
+        print!(rt; "{n}; ")?;
+        print_place(rt, answer.place)
     }
 }
 
-fn print_totals(totals: Totals) {
-    print_first(totals.records);
-    print_first(totals.fields.0);
-    print_first(totals.text);
-    io::print_decimal(1, totals.report as u64);
+fn print_totals(rt: &impl Print, totals: Totals) -> io::Result<()> {
+    print_first(rt, totals.records)?;
+    print_first(rt, totals.fields.0)?;
+    print_first(rt, totals.text)?;
+    let report = totals.report;
+    print!(rt; "{report}")
 }
 
-fn print_place(place: Place) {
-    print_first(place.line.0);
-    print_first(place.column.0);
-    io::print_decimal(1, place.byte.0 as u64);
+fn print_place(rt: &impl Print, place: Place) -> io::Result<()> {
+    print_first(rt, place.line.0)?;
+    print_first(rt, place.column.0)?;
+    let byte = place.byte.0;
+    print!(rt; "{byte}")
 }
 
 // A number that others follow.
-fn print_first(n: u32) {
-    io::print_decimal(1, n as u64);
-    io::write_all(1, b", ");
+fn print_first(rt: &impl Print, n: u32) -> io::Result<()> {
+    print!(rt; "{n}, ")
 }
 
 // One record of an empty field and x,y: plain and full. And the file a, line break, two quotes: it has
 // the plain form's length, plus two for the quotes without need, minus two for the break it lacks.
-fn written_files() {
-    let ends: [u32; 2] = [0, 3];
-    let rows: [u32; 1] = [2];
-    written(b"plain", b"x,y", &ends, &rows, 0);
-    written(b"full", b"x,y", &ends, &rows, 1);
-    rewritten(b"a\r\n\"\"");
+fn written_files(rt: &impl Print) -> io::Result<()> {
+    let ends = [0u32, 3];
+    let rows = [2u32];
+    written(rt, "plain", b"x,y", &ends, &rows, 0)?;
+    written(rt, "full", b"x,y", &ends, &rows, 1)?;
+    rewritten(rt, b"a\r\n\"\"")
 }
 
-fn rewritten(file: &[u8]) {
-    let mut text: [u8; 1] = [0; 1];
-    let mut ends: [u32; 2] = [0; 2];
-    let mut rows: [u32; 2] = [0; 2];
+fn rewritten(rt: &impl Print, file: &[u8]) -> io::Result<()> {
+    let mut text = [0u8; 1];
+    let mut ends = [0u32; 2];
+    let mut rows = [0u32; 2];
     reader::read_strict(file, &mut text, &mut ends, &mut rows);
-    print_file(file);
-    io::write_all(1, b" | ");
-    io::print_decimal(1, file.len() as u64);
-    io::write_all(1, b" bytes | ");
-    written(b"plain", &text, &ends, &rows, 0);
+    print_file(rt, file)?;
+    let length = file.len();
+    print!(rt; " | {length} bytes | ")?;
+    written(rt, "plain", &text, &ends, &rows, 0)
 }
 
-fn written(name: &[u8], text: &[u8], ends: &[u32], rows: &[u32], mode: u8) {
-    let mut out: [u8; 16] = [0; 16];
+fn written(
+    rt: &impl Print,
+    name: &str,
+    text: &[u8],
+    ends: &[u32],
+    rows: &[u32],
+    mode: u8,
+) -> io::Result<()> {
+    let mut out = [0u8; 16];
     let answer = writer::write(text, ends, rows, mode, &mut out);
-    io::write_all(1, name);
-    io::write_all(1, b" | ");
-    print_written(&out, answer);
+    print!(rt; "{name} | ")?;
+    print_written(rt, &out, answer)
 }
 
-fn print_written(out: &[u8], answer: Written) {
+fn print_written(rt: &impl Print, out: &[u8], answer: Written) -> io::Result<()> {
     match answer {
         Written::Whole(n) => {
-            let length = io::count(n as isize, out);
-            print_file(&out[..length]);
-            io::write_all(1, b" | ");
-            io::print_decimal(1, n as u64);
-            io::write_all(1, b" bytes\n");
+            let length = out.len().min(n as usize);
+            print_file(rt, &out[..length])?;
+            println!(rt; " | {n} bytes")
         }
-        Written::UnknownMode => refused(1),
-        Written::Malformed => refused(14),
-        Written::Forbidden(_) => refused(3),
-        Written::LongContent(_) => refused(9),
-        Written::Uneven(_) => refused(10),
-        Written::LongFile => refused(2),
-        Written::NoRoom => refused(15),
+        Written::UnknownMode => refused(rt, 1),
+        Written::Malformed => refused(rt, 14),
+        Written::Forbidden(_) => refused(rt, 3),
+        Written::LongContent(_) => refused(rt, 9),
+        Written::Uneven(_) => refused(rt, 10),
+        Written::LongFile => refused(rt, 2),
+        Written::NoRoom => refused(rt, 15),
     }
 }
 
-fn refused(n: u64) {
-    io::print_decimal(1, n);
-    io::write_all(1, b"\n");
+fn refused(rt: &impl Print, n: u32) -> io::Result<()> {
+    println!(rt; "{n}")
 }
 
 // A file in which LF comes only behind CR, each CRLF shown as one sign.
-fn print_file(file: &[u8]) {
-    let mut i = 0;
-    while i < file.len() {
-        print_byte(file[i]);
-        i += 1;
+fn print_file(rt: &impl Print, file: &[u8]) -> io::Result<()> {
+    for b in file {
+        print_byte(rt, *b)?;
     }
+    Ok(())
 }
 
-fn print_byte(b: u8) {
+fn print_byte(rt: &impl Print, b: u8) -> io::Result<()> {
     if b == b'\n' {
-        io::write_all(1, b"\xE2\x8F\x8E");
-    } else if b != b'\r' {
-        let one: [u8; 1] = [b];
-        io::write_all(1, &one);
+        print!(rt; "⏎")
+    } else if b == b'\r' {
+        Ok(())
+    } else {
+        io::writer(rt).write_all(&[b])
     }
 }
