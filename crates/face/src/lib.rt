@@ -12,11 +12,11 @@ use format::{Column, FieldNumber, Found, Line, Part, TextIndex, Written};
 // An index from 0, of the kind that the refusal tells: of a text byte for 3, of a field for 9, of a
 // record for 10.
 #[repr(C)]
-#[derive(Drop)]
+#[derive(Clone, Copy)]
 pub struct Index(pub u32);
 
 #[repr(C)]
-#[derive(Drop)]
+#[derive(Clone, Copy)]
 pub struct SvWritten {
     pub refusal: u32,
     pub line: Line,
@@ -26,14 +26,14 @@ pub struct SvWritten {
 }
 
 #[repr(C)]
-#[derive(Drop)]
+#[derive(Clone, Copy)]
 pub struct SvColumn {
     pub refusal: u32,
     pub column: FieldNumber,
 }
 
 #[repr(C)]
-#[derive(Drop)]
+#[derive(Clone, Copy)]
 pub struct SvPart {
     pub found: u32,
     pub start: TextIndex,

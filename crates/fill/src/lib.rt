@@ -12,7 +12,7 @@ ghost use Rattle.fill.specs.Put.{copy_fits, end_fits, field_fits, end_of, behind
 
 // Where the walk is: the next byte of the file, the form, the blanks held, how many of the text, the
 // ends and the rows are written, and whether a byte came since the last record's end.
-#[derive(Drop)]
+#[derive(Clone, Copy)]
 pub struct Head {
     pub at: usize,
     pub form: u8,
@@ -25,7 +25,7 @@ pub struct Head {
 
 // A field of a file: where its content begins and ends, where the next field begins, and whether it
 // ends a record.
-#[derive(Drop)]
+#[derive(Clone, Copy)]
 pub struct Field {
     pub from: usize,
     pub to: usize,

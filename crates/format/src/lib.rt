@@ -25,31 +25,31 @@ pub const LARGEST_32: usize = 4294967295;
 // number. Lines and columns count from 1, all others from 0. A table's column is a field number and
 // never a Column; a byte offset is a place in a file, and an index into a table's text is no such place.
 #[repr(C)]
-#[derive(Drop)]
+#[derive(Clone, Copy)]
 pub struct Line(pub u32);
 
 #[repr(C)]
-#[derive(Drop)]
+#[derive(Clone, Copy)]
 pub struct Column(pub u32);
 
 #[repr(C)]
-#[derive(Drop)]
+#[derive(Clone, Copy)]
 pub struct ByteOffset(pub u32);
 
 #[repr(C)]
-#[derive(Drop)]
+#[derive(Clone, Copy)]
 pub struct FieldNumber(pub u32);
 
 #[repr(C)]
-#[derive(Drop)]
+#[derive(Clone, Copy)]
 pub struct RecordNumber(pub u32);
 
 #[repr(C)]
-#[derive(Drop)]
+#[derive(Clone, Copy)]
 pub struct TextIndex(pub u32);
 
 #[repr(C)]
-#[derive(Drop)]
+#[derive(Clone, Copy)]
 pub struct Place {
     pub line: Line,
     pub column: Column,
@@ -59,7 +59,7 @@ pub struct Place {
 // What an accepted file holds, and the leniencies that it used. The fields are counted by the number
 // that one more would have.
 #[repr(C)]
-#[derive(Drop)]
+#[derive(Clone, Copy)]
 pub struct Totals {
     pub records: u32,
     pub fields: FieldNumber,
@@ -70,7 +70,7 @@ pub struct Totals {
 // The reader's answer and the check's: refusal 0 and the totals; or the refusal's number and the place
 // that it names. The rest of either is 0.
 #[repr(C)]
-#[derive(Drop)]
+#[derive(Clone, Copy)]
 pub struct Answer {
     pub refusal: u32,
     pub place: Place,
@@ -78,7 +78,7 @@ pub struct Answer {
 }
 
 // The writer's answer: the written length, or why nothing was written.
-#[derive(Drop)]
+#[derive(Clone, Copy)]
 pub enum Written {
     Whole(u32),
     UnknownMode,
@@ -91,7 +91,7 @@ pub enum Written {
 }
 
 // The column search's answer: the column, or why there is none to give.
-#[derive(Drop)]
+#[derive(Clone, Copy)]
 pub enum Found {
     At(FieldNumber),
     Malformed,
@@ -100,7 +100,7 @@ pub enum Found {
 }
 
 // Where a field lies in text: its start and its length; or there is no such field.
-#[derive(Drop)]
+#[derive(Clone, Copy)]
 pub enum Part {
     Lies(TextIndex, u32),
     Absent,

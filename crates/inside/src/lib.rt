@@ -11,7 +11,7 @@ ghost use Rattle.fill.specs.Walk.{Wrote, NoQuote, Inside, between};
 use fill::Head;
 
 // A place of the file, and one of the text.
-#[derive(Drop)]
+#[derive(Clone, Copy)]
 struct Spot {
     at: usize,
     text: usize,

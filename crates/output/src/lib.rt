@@ -15,7 +15,7 @@ use state::Check;
 // A stream's state: the check's, how many of the blanks that it holds are out already, and whether a close
 // has ended it, 0 for no.
 #[repr(C)]
-#[derive(Drop)]
+#[derive(Clone, Copy)]
 pub struct Stream {
     pub check: Check,
     pub early: u32,
@@ -25,7 +25,7 @@ pub struct Stream {
 // What a call gives: the state for the next call; how much of the piece was taken, and of each buffer
 // filled; the buffer that was short, or 0; whether a close has accepted the file; and the answer.
 #[repr(C)]
-#[derive(Drop)]
+#[derive(Clone, Copy)]
 pub struct Streamed {
     pub state: Stream,
     pub taken: usize,
@@ -38,7 +38,7 @@ pub struct Streamed {
 }
 
 // What a byte puts out, all of it: so many of the blanks held, and itself; the end of its field; the row.
-#[derive(Drop)]
+#[derive(Clone, Copy)]
 pub struct Due {
     pub blanks: u32,
     pub byte: bool,

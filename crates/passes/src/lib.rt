@@ -19,7 +19,7 @@ use spans::Walk;
 use state::{Check, Counts, Current};
 
 // A state, and the place in a piece that it stands at.
-#[derive(Drop)]
+#[derive(Clone, Copy)]
 pub struct Reached {
     pub at: usize,
     pub check: Check,

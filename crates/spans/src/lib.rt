@@ -16,7 +16,7 @@ use state::Check;
 
 // Bytes between quotes that are one jump: where they end, how much content they are, the line feeds
 // among them, and the bytes behind the last of these, or all.
-#[derive(Drop)]
+#[derive(Clone, Copy)]
 pub struct Inside {
     pub end: usize,
     pub content: usize,
@@ -27,7 +27,7 @@ pub struct Inside {
 // A walk over fields and records: the place reached, where its line begins, or the walk, and the line
 // feeds passed; where the field in work begins, in plain text so far; the records and fields closed,
 // the number of the field in work in its record, and the text of the fields closed.
-#[derive(Drop)]
+#[derive(Clone, Copy)]
 pub struct Walk {
     pub at: usize,
     pub line: usize,

@@ -17,7 +17,7 @@ use steps::Stepped;
 
 // The leniencies used so far; 0 for no.
 #[repr(C)]
-#[derive(Drop)]
+#[derive(Clone, Copy)]
 pub struct Used {
     pub lf: u8,
     pub blanks: u8,
@@ -27,7 +27,7 @@ pub struct Used {
 
 // The field in work: its first byte, the content so far, the blanks held, and its number in its record.
 #[repr(C)]
-#[derive(Drop)]
+#[derive(Clone, Copy)]
 pub struct Current {
     pub start: Place,
     pub content: u32,
@@ -37,7 +37,7 @@ pub struct Current {
 
 // What has been closed so far, and the number of fields of the first record, 0 before its end.
 #[repr(C)]
-#[derive(Drop)]
+#[derive(Clone, Copy)]
 pub struct Counts {
     pub records: u32,
     pub fields: FieldNumber,
@@ -49,7 +49,7 @@ pub struct Counts {
 // the place that a refusal names once there is one. begun is 0 where no byte came since the last
 // record's end.
 #[repr(C)]
-#[derive(Drop)]
+#[derive(Clone, Copy)]
 pub struct Check {
     pub delimiter: u8,
     pub leniencies: u8,

@@ -191,6 +191,8 @@ module _ (y : Bool) where
   over-delimiter bare u = refl
   over-delimiter shut u = refl
   over-delimiter tail u = refl
+  over-delimiter quoted u = elim u [ ]
+  over-delimiter cr u = elim u [ ]
 
   pub over-CR : (k : Form) → T (over k) → step_of y k CR ≡ go cr nothing
   unfolding step_of
@@ -199,6 +201,8 @@ module _ (y : Bool) where
   over-CR bare u = refl
   over-CR shut u = refl
   over-CR tail u = refl
+  over-CR quoted u = elim u [ ]
+  over-CR cr u = elim u [ ]
 
   pub over-LF : (k : Form) → T (over k) → step_of y k LF ≡ cond y (go start record_end) (refuse 7)
   unfolding step_of
@@ -207,6 +211,8 @@ module _ (y : Bool) where
   over-LF bare u = refl
   over-LF shut u = refl
   over-LF tail u = refl
+  over-LF quoted u = elim u [ ]
+  over-LF cr u = elim u [ ]
 
   pub over-forbidden : (k : Form) → T (over k) → step_of y k forbidden ≡ refuse 3
   unfolding step_of
@@ -215,6 +221,8 @@ module _ (y : Bool) where
   over-forbidden bare u = refl
   over-forbidden shut u = refl
   over-forbidden tail u = refl
+  over-forbidden quoted u = elim u [ ]
+  over-forbidden cr u = elim u [ ]
 
   pub CR-LF : step_of y cr LF ≡ go start record_end
   unfolding step_of

@@ -71,6 +71,23 @@ alike tail t CR u y b f p r = refl
 alike tail t forbidden u y b f p r = refl
 alike tail t LF u true b f p r = refl
 alike tail t LF u false b f p r = refl
+alike start t text u y b f p r = elim u [ ]
+alike start t blank u y b f p r = elim u [ ]
+alike start t quote u y b f p r = elim u [ ]
+alike lead t text u y b f p r = elim u [ ]
+alike lead t blank u y b f p r = elim u [ ]
+alike lead t quote u y b f p r = elim u [ ]
+alike bare t text u y b f p r = elim u [ ]
+alike bare t blank u y b f p r = elim u [ ]
+alike bare t quote u y b f p r = elim u [ ]
+alike quoted t _ u y b f p r = elim t [ ]
+alike shut t text u y b f p r = elim u [ ]
+alike shut t blank u y b f p r = elim u [ ]
+alike shut t quote u y b f p r = elim u [ ]
+alike tail t text u y b f p r = elim u [ ]
+alike tail t blank u y b f p r = elim u [ ]
+alike tail t quote u y b f p r = elim u [ ]
+alike cr t _ u y b f p r = elim t [ ]
 
 -- start and lead are one row
 opening :
@@ -99,6 +116,8 @@ module _ (d : Dialect) where
   over-end bare t p = refl
   over-end shut t p = refl
   over-end tail t p = refl
+  over-end quoted t p = elim t [ ]
+  over-end cr t p = elim t [ ]
 
   over-byte :
       {x : Class} (k : Form) → T (over k) → (b : ℕ) (f p : Bytes) → T (stops x) → class_of d b ≡ x → run d (b ∷ f) k p ≡ run d (b ∷ f) tail []
@@ -216,6 +235,8 @@ module _ (d : Dialect) where
   quoted-byte delimiter t b f p e = rw e
   quoted-byte CR t b f p e = rw e
   quoted-byte LF t b f p e = rw e
+  quoted-byte quote t b f p e = elim t [ ]
+  quoted-byte forbidden t b f p e = elim t [ ]
 
   pub inside :
       {f g : Bytes} {c : Content} (p : Bytes) (n : ℕ) (r : Trace)

@@ -50,6 +50,8 @@ at_field (at_lead x) u = Field.bare x Bare.none refl Blanks.none
 at_field (at_bare x k p y e) u = Field.bare x k p y
 at_field (at_shut x k) u = Field.quoted x k Blanks.none
 at_field (at_tail x k i y) u = Field.quoted x k (Blanks.more i y)
+at_field {d = d} {h = h} {c = c} (at_quoted {q = q} _ _) u = elim u [ ]
+at_field {d = d} {h = h} {c = c} {n = n} (at_cr {b = b} _ _) u = elim u [ ]
 
 -- a byte b that the table refuses is a fault in its field: found behind the field, or inside it at that very byte
 pub data Fault (d : Dialect) (i b : ℕ) (h : Bytes) (c : Content) : Type 0 where
@@ -131,6 +133,8 @@ module _ (d : Dialect) (b : ℕ) where
   whole (at_bare x k p y e) u = Field.bare (blanks-grow d more x) (bare-grow d more k) p (blanks-grow d more y)
   whole (at_shut x k) u = Field.quoted (blanks-grow d more x) (quoted-grow d more k) Blanks.none
   whole (at_tail x k i y) u = Field.quoted (blanks-grow d more x) (quoted-grow d more k) (Blanks.more i (blanks-grow d more y))
+  whole {h = h} {c = c} (at_quoted {q = q} _ _) u = elim u [ ]
+  whole {h = h} {c = c} {n = n} (at_cr _ _) u = elim u [ ]
 
   line-feed :
       (h : Bytes) {c : Content} (n : ℕ) → Field d (h ++ more) c more → class_of d b ≡ LF → (y : Bool) → d.allows lf ≡ y
@@ -145,6 +149,9 @@ module _ (d : Dialect) (b : ℕ) where
   ended {k} a u CR t e = rw (over-CR (d.allows lf) k u) (at_cr (whole a u) e)
   ended {k} {h} {n} a u LF t e = rw (over-LF (d.allows lf) k u) (line-feed h n (whole a u) e (d.allows lf) refl)
   ended {k} a u forbidden t e = rw (over-forbidden (d.allows lf) k u) (behind more (whole a u) (refusal_3 (whole a u) e))
+  ended {k = k} {h = h} {c = c} {n = n} a u text t e = elim t [ ]
+  ended {k = k} {h = h} {c = c} {n = n} a u blank t e = elim t [ ]
+  ended {k = k} {h = h} {c = c} {n = n} a u quote t e = elim t [ ]
 
   -- and what goes on with it
   goes_on :
@@ -180,6 +187,26 @@ module _ (d : Dialect) (b : ℕ) where
   goes_on (at_cr p i) CR u e = cr-fault {n = 0} CR (at_cr p i) e (λ z. omega arith)
   goes_on (at_cr {b = a} p i) LF u e = (a ∷ more, field-grow d more p, Break.crlf i e)
   goes_on (at_cr p i) forbidden u e = cr-fault {n = 0} forbidden (at_cr p i) e (λ z. omega arith)
+  goes_on at_start delimiter u e = elim u [ ]
+  goes_on at_start CR u e = elim u [ ]
+  goes_on at_start LF u e = elim u [ ]
+  goes_on at_start forbidden u e = elim u [ ]
+  goes_on {h = h} (at_lead x) delimiter u e = elim u [ ]
+  goes_on {h = h} (at_lead x) CR u e = elim u [ ]
+  goes_on {h = h} (at_lead x) LF u e = elim u [ ]
+  goes_on {h = h} (at_lead x) forbidden u e = elim u [ ]
+  goes_on {h = h} {n = n} (at_bare {a = a} {g = g} {i = i} {c = c} x k p y q) delimiter u e = elim u [ ]
+  goes_on {h = h} {n = n} (at_bare {a = a} {g = g} {i = i} {c = c} x k p y q) CR u e = elim u [ ]
+  goes_on {h = h} {n = n} (at_bare {a = a} {g = g} {i = i} {c = c} x k p y q) LF u e = elim u [ ]
+  goes_on {h = h} {n = n} (at_bare {a = a} {g = g} {i = i} {c = c} x k p y q) forbidden u e = elim u [ ]
+  goes_on {h = h} {c = c} (at_shut {q = q} x k) delimiter u e = elim u [ ]
+  goes_on {h = h} {c = c} (at_shut {q = q} x k) CR u e = elim u [ ]
+  goes_on {h = h} {c = c} (at_shut {q = q} x k) LF u e = elim u [ ]
+  goes_on {h = h} {c = c} (at_shut {q = q} x k) forbidden u e = elim u [ ]
+  goes_on {h = h} {c = c} (at_tail {a = a} {q = q} x k i y) delimiter u e = elim u [ ]
+  goes_on {h = h} {c = c} (at_tail {a = a} {q = q} x k i y) CR u e = elim u [ ]
+  goes_on {h = h} {c = c} (at_tail {a = a} {q = q} x k i y) LF u e = elim u [ ]
+  goes_on {h = h} {c = c} (at_tail {a = a} {q = q} x k i y) forbidden u e = elim u [ ]
 
   -- one byte more, of each class
   pub makes : {k : Form} {h : Bytes} {c : Content} {n : ℕ} → At d k h c n → (x : Class) → class_of d b ≡ x → Makes d b h c n (step_of (d.allows lf) k x)

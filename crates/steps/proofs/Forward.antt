@@ -227,6 +227,7 @@ module _ (d : Dialect) where
   tallied-answer f (declined n a p) o = refl
   tallied-answer f (taken (cs ∷ t) m l) o =
       rw (or-false (some l), or-false (some m), zero-add (length cs), or-false (differs (length cs) t), zero-add (suc (length t)), zero-add (length (flatten (cs ∷ t))), zero-add (length (text_of (cs ∷ t))))
+  tallied-answer f (taken [] m l) o = elim o [ ]
 
   pub comes-answer : (f : Bytes) → answer f (some (wides d f)) (comes d f (opening false (none f))) ≡ answer_of (verdict d f (read d any f))
   unfolding comes read verdict used flatten

@@ -182,6 +182,7 @@ module _ {d : Dialect} where
       begun-read d w r k
       ∙ (agreed w r (LineEnd.broken k) h.0 h.1
       ∙ ap (above cs (sum_in_record dropped r) (alone k)) (read-complete (settled w (length cs)) p l h.2))
+  read-complete w (File.one {f = []} {cs = cs} r) l h = elim l [ ]
 
 -- a refusal in the record that begins at f: w is the width that the record is to agree with
 pub data Here (d : Dialect) (w : Width) : ℕ → Bytes → Bytes → Bytes → Type 0 where

@@ -3,7 +3,7 @@ use Prim.Native.Nat.{ℕ, zero, suc, ◌+◌}
 use native.Mathlib.Nat.{zero-add, add-zero, suc-add}
 use native.Mathlib.Numerals.{add-one}
 use native.Mathlib.Omega.{arith}
-use mathlib.Core.Path.{◌≡◌, refl, sym, ap, ◌∙◌}
+use mathlib.Core.Path.{◌≡◌, refl, sym, ap, subst, ◌∙◌}
 use mathlib.Core.Bool.{Bool, true, false, cond, not, ◌||◌, or-true, or-false}
 use mathlib.Core.List.{List, [], ◌∷◌, ◌++◌, flatten}
 use lib.Dec.{eqb, leb, eqb-suc-zero}
@@ -175,6 +175,7 @@ some-above cs m l (taken t i k) = tt
 some-beside : (x : Cell) (a : Judged) → Some a → Some (beside x a)
 some-beside x (declined n p q) s = tt
 some-beside x (taken (cs ∷ t) m l) s = tt
+some-beside x (taken [] m l) s = elim s [ ]
 
 pub some-judge : (d : Dialect) (w : Width) (j : ℕ) (p : Bytes) (r : Trace) → Some (judge d w j p r)
 some-judge d w j p (refused n a q) = tt
@@ -259,6 +260,7 @@ tallied-beside a g x (taken (cs ∷ t) m l) o =
     same_total refl (omega (arith, fields-cons x.content cs t)) (omega (arith, text-cons x.content cs t)) refl
     (flag-twice m x.drops a.flags.blanks)
     (ap (λ (n : ℕ). (not (even z n) || differs (cond (eqb z 0) n z) t) || a.flags.ragged) e)
+tallied-beside a g x (taken [] m l) o = elim o [ ]
 
 -- a record before others, whose width is then set: e, it is as wide as the first; f, the next is; g, a later one is not
 ragged-line : (e f g v : Bool) → ((not f || g) || (not e || v)) ≡ ((not e || (not f || g)) || v)
@@ -273,6 +275,19 @@ width-set : (z j : ℕ) → (y : ℕ) × (cond (eqb z 0) (suc j) z ≡ suc y)
 width-set zero j = (j, refl)
 width-set (suc z) j = (z, rw (eqb-suc-zero z))
 
+-- the same, with the width that is set there
+line-above :
+    (z j n : ℕ) (t : Table) (v : Bool) (y : ℕ) → cond (eqb z 0) (suc j) z ≡ suc y
+    → let w = cond (eqb z 0) (suc j) z in
+      let u = cond (eqb z 0) (j + 1) z in
+      (not (even w n) || differs (cond (eqb w 0) n w) t || (not (even z (suc j)) || v)) ≡ (not (even z (j + 1)) || (not (eqb n u) || differs u t) || v)
+line-above z j n t v y e =
+    let P : ℕ → Type 0 =
+      λ k. (not (even (suc y) n) || differs (cond (eqb (suc y) 0) n (suc y)) t || (not (even z (suc j)) || v))
+      ≡ (not (even z k) || (not (eqb n (cond (eqb z 0) k z)) || differs (cond (eqb z 0) k z) t) || v) in
+    let q : P (suc j) = rw (e, eqb-suc-zero y) (ragged-line (even z (suc j)) (eqb n (suc y)) (differs (suc y) t) v) in
+    rw e (subst P (sym (add-one j)) q)
+
 module _ (a : Account) (x : Cell) (l : ℕ) where
   -- a record of one field before others, and as the last
   tallied-above : (g : Bytes) (r : Judged) → Some r → tallied (record_on (some l) g (counted a x)) r ≡ tallied a (above (x.content ∷ []) x.drops l r)
@@ -281,8 +296,8 @@ module _ (a : Account) (x : Cell) (l : ℕ) where
       let (y, e) = width-set a.width a.number in
       same_total (omega arith) (omega (arith, one-field x.content (es ∷ t))) (omega (arith, one-text x.content (es ∷ t)))
       (flag-twice k l a.flags.lf) (flag-twice m x.drops a.flags.blanks)
-      (rw (add-one a.number, e, zero-add (length es), eqb-suc-zero y)
-      (ragged-line (even a.width (suc a.number)) (eqb (length es) (suc y)) (differs (suc y) t) a.flags.ragged))
+      (rw (zero-add (length es)) (line-above a.width a.number (length es) t a.flags.ragged y e))
+  tallied-above g (taken [] m k) o = elim o [ ]
 
   tallied-last : closed (record_on (some l) [] (counted a x)) ≡ tallied a (above (x.content ∷ []) x.drops l (taken [] 0 0))
   unfolding flatten

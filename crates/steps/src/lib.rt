@@ -12,7 +12,7 @@ ghost use Rattle.steps.specs.Numbers.{form_of, class_number, class_from, move_of
 
 // What a byte does: it is refused, or it leads to a form and puts something out. The end of a field
 // or a record leads to the form start.
-#[derive(Drop)]
+#[derive(Clone, Copy)]
 pub enum Stepped {
     Refuse(u8),
     Quiet(u8),

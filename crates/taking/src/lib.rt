@@ -15,7 +15,7 @@ use state::Check;
 
 // How far a call has come: the state, how much of the piece is taken and of each buffer filled, and the
 // buffer that was short, or 0.
-#[derive(Drop)]
+#[derive(Clone, Copy)]
 pub struct Flow {
     pub state: Stream,
     pub taken: usize,
