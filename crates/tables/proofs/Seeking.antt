@@ -73,6 +73,7 @@ module _ {A B : Type 0} (P : A → Type 0) (Q : B → Type 0) where
   agree-first (a ∷ l) [] r x = absurd r
   agree-first (a ∷ l) (b ∷ m) (s, r) (here h) = here (s.0 h)
   agree-first (a ∷ l) (b ∷ m) (s, r) (later n x) = later (λ h. n (s.1 h)) (agree-first l m r x)
+  agree-first [] m {k = k} r x = elim x [ ]
 
   pub sought-agree : (l : List A) (m : List B) {k : ℕ} → Agree l m → Sought P l k → Sought Q m k
   sought-agree l m r (inl x) = inl (agree-first l m r x)

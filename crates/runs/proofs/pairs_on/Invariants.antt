@@ -1,0 +1,13 @@
+-- `runs::pairs_on` meets its contract. The loop's invariant: the pairs that are passed and those that are left are all.
+use Prim.Native.Nat.{◌+◌, ◌-◌}
+use native.Mathlib.Omega.{arith}
+use lib.ListN.{length, drop}
+use Rattle.runs.specs.Runs.{pairs}
+use Rattle.runs.proofs.Runs.{Paired, paired-more, paired-first, paired-second, paired-end}
+use Rattle.runs.proofs.pairs_on.Given as goal
+
+abbrev pub invariant-loop-i : goal.invariant-loop-i
+invariant-loop-i l = Paired l.s (l.count + pairs (drop l.at l.s)) l.n l.i
+
+abbrev pub decreases-loop-i : goal.decreases-loop-i
+decreases-loop-i l = length l.s - l.i

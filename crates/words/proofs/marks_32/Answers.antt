@@ -1,0 +1,19 @@
+-- `words::marks_32` meets its contract.
+use native.Mathlib.Omega.{arith}
+use Rattle.words.proofs.Words.{halves-fit, halves_join}
+use borrow.Author.Rules.{rules}
+use Rattle.words.proofs.marks_32.Goals as goal
+
+pub overflow_mul-result : goal.overflow_mul-result
+overflow_mul-result c =
+    let a = c.args in
+    omega (arith, halves-fit a.t.now a.s.now a.at 16 c.marks-high.result c.marks-low.result c.marks-low.ensures c.marks-high.ensures)
+
+pub overflow_add-result : goal.overflow_add-result
+overflow_add-result c =
+    let a = c.args in
+    omega (arith, halves-fit a.t.now a.s.now a.at 16 c.marks-high.result c.marks-low.result c.marks-low.ensures c.marks-high.ensures)
+
+pub returns : goal.returns
+returns c =
+    halves_join c.args.t.now c.args.s.now c.args.at 16 c.marks-high.result c.marks-low.result c.marks-low.ensures c.marks-high.ensures (omega (arith, c.requires))
