@@ -80,6 +80,7 @@ text-put : (h b : ℕ) (r : Trace) → Clean r → text_ahead h (flow (change (p
 text-put h b (last x l a) s = held-put h b x.content (flatten [])
 text-put h b (field x a g r) s = held-put h b x.content (flatten (flow r))
 text-put h b (line x l a g r) s = held-put h b x.content (flatten (flow r))
+text-put h b (refused _ _ _) s = elim s [ ]
 
 spaces-in : (h : ℕ) (l : Bytes) → replicate h 0x20 ++ (0x20 ∷ l) ≡ 0x20 ∷ (replicate h 0x20 ++ l)
 spaces-in zero l = refl
@@ -315,6 +316,7 @@ module _ (d : Dialect) where
             ∙ (ap (λ (m : ℕ). m ∷ lengths m s) (omega arith) ∙ (sym (lengths-more n (u.content ∷ cs) s) ∙ ap (lengths n) e)));
       }
   flows-field false u i k a p g r q t o h e = never-taken e
+  flows-field true u i k a p g r (taken [] m l) t o h q = elim o [ ]
 
   flows : (w : Width) (j : ℕ) (p : Bytes) (r : Trace) (t : Table) (m l : ℕ) → judge d w j p r ≡ taken t m l → Flows r t
   unfolding flatten

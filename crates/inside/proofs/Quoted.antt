@@ -10,7 +10,7 @@ use borrow.Author.Tests.{leb-true}
 use lib.ListN.{length, get_or, set, take, drop, replicate, length-drop, length-set}
 use lib.Seq.{sets, drop-cons}
 use Rattle.format.specs.Table.{Bytes}
-use Rattle.format.specs.Dialect.{lf, Dialect, strict, text, class_of}
+use Rattle.format.specs.Dialect.{lf, Dialect, strict, class_of}
 use Rattle.steps.specs.Steps.{quoted, put, go, step_of}
 use Rattle.runs.specs.Runs.{run, is_inner, pairs}
 use Rattle.format.proofs.Tests.{and_both}

@@ -104,6 +104,8 @@ module _ (g : Check) (k : Form) (h : Ending g k) where
     no-cr-form bare u = refl
     no-cr-form shut u = refl
     no-cr-form tail u = refl
+    no-cr-form quoted u = elim u [ ]
+    no-cr-form cr u = elim u [ ]
 
     ended-alone :
         (p : Place) → placed p (record_ended g.used (seen_at g) p (not (leb (form_number cr) g.form)) g)
