@@ -15,7 +15,7 @@ use Rattle.output.specs.declared.Stream.{Stream}
 use Rattle.output.specs.declared.Streamed.{Streamed}
 use Rattle.output.specs.Out.{Out, nothing, then, CameOut, Contents}
 use Rattle.output.specs.Stream.{is_over, due, fits, left_of}
-use Rattle.output.specs.Promises.{Started, Fed, Closed, roomOf}
+use Rattle.output.specs.Promises.{Started, Fed, Closed, room_of}
 
 -- what a call put out: the front of each buffer, as far as it was filled
 abbrev pub filled_of : Streamed → Bytes → List ℕ → List ℕ → Out
@@ -58,7 +58,7 @@ pub record Streaming : Type 0 where
   pub takes :
       {x : ℕ} {piece text text' : Bytes} {ends rows ends' rows' : List ℕ} {s : Stream} {r : Streamed}
       → Fed s (x ∷ piece) text ends rows r text' ends' rows' → is_over s ≡ false
-      → fits (due s.early s.check x (fed s.check x)) (roomOf text ends rows) ≡ true → 1 ≤ r.taken
+      → fits (due s.early s.check x (fed s.check x)) (room_of text ends rows) ≡ true → 1 ≤ r.taken
   pub stops :
       {piece text text' : Bytes} {ends rows ends' rows' : List ℕ} {s : Stream} {r : Streamed}
       → Fed s piece text ends rows r text' ends' rows' → r.taken < length piece → r.short ≡ 0 → Ended r.answer r.closed

@@ -12,7 +12,7 @@ use Rattle.state.specs.declared.Check.{Check}
 use Rattle.state.specs.Check.{fed}
 use Rattle.output.specs.declared.Stream.{Stream}
 use Rattle.output.specs.Out.{Out}
-use Rattle.output.specs.Stream.{shown, is_over, putsText, endsField, endsRecord, byteLeft, when, blanksDue, due, Room, fits, left, short_of, idle, onward, showing, stuck, taking, streamed}
+use Rattle.output.specs.Stream.{shown, is_over, puts_text, ends_field, ends_record, byte_left, when, blanks_due, due, Room, fits, left, short_of, idle, onward, showing, stuck, taking, streamed}
 
 module _ (s : Stream) (r : Room) where
   pub streamed-none : streamed s [] r ≡ idle s
@@ -37,7 +37,7 @@ module _ (s : Stream) (r : Room) where
       unfolding streamed
       streamed-taken j = rw (h, i, j)
 
-      pub streamed-stuck : fits dues r ≡ false → streamed s (b ∷ f) r ≡ stuck s dues r (min (blanksDue s.early s.check (fed s.check b)) r.text)
+      pub streamed-stuck : fits dues r ≡ false → streamed s (b ∷ f) r ≡ stuck s dues r (min (blanks_due s.early s.check (fed s.check b)) r.text)
       unfolding streamed
       streamed-stuck j = rw (h, i, j)
 
@@ -53,9 +53,9 @@ pub due-is :
     (m : ℕ) (c : Check) (b : ℕ) (e : Check)
     → due m c b e
     ≡ record {
-      text = replicate (blanksDue m c e) 0x20 ++ when (putsText c e && byteLeft c) b;
-      ends = when (endsField e) e.counts.text;
-      rows = when (endsRecord e) e.counts.fields.0;
+      text = replicate (blanks_due m c e) 0x20 ++ when (puts_text c e && byte_left c) b;
+      ends = when (ends_field e) e.counts.text;
+      rows = when (ends_record e) e.counts.fields.0;
     }
 unfolding due
 due-is m c b e = refl

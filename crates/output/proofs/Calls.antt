@@ -19,7 +19,7 @@ use Rattle.state.proofs.Parts.{started-is}
 use Rattle.output.specs.declared.Stream.{Stream}
 use Rattle.output.specs.Out.{Out, nothing, then, out_of, CameOut, came-out}
 use Rattle.format.specs.SoFar.{so_far}
-use Rattle.output.specs.Stream.{shown, is_over, putsText, blanksDue, due, Room, fits, left, Called, idle, onward, stuck, taking, streamed}
+use Rattle.output.specs.Stream.{shown, is_over, puts_text, blanks_due, due, Room, fits, left, Called, idle, onward, stuck, taking, streamed}
 use Rattle.output.specs.Promises.{Awaits, nothing-early, content-next, Stands, going, refused}
 use Rattle.format.proofs.Even.{even-none}
 use Rattle.steps.proofs.Forms.{at_start, at-begun}
@@ -92,7 +92,7 @@ idle-after : {b sum : ℕ} {f : Bytes} {o : Out} {s : Stream} (piece g : Bytes) 
 idle-after {b} {sum} {f} {o} {s} piece g h = subst (λ (p : Out). Inv b sum (f ++ []) (piece ++ g) p s) (sym (then-nothing o)) (subst (λ (l : Bytes). Inv b sum l (piece ++ g) o s) (sym (append-nil f)) h)
 
 -- nothing is early, or the next byte is content
-awaits-zero : {c : Check} {m x : ℕ} {g : Bytes} → Awaits c m (x ∷ g) → putsText c (fed c x) ≡ false → m ≡ 0
+awaits-zero : {c : Check} {m x : ℕ} {g : Bytes} → Awaits c m (x ∷ g) → puts_text c (fed c x) ≡ false → m ≡ 0
 awaits-zero nothing-early p = refl
 awaits-zero (content-next s q) p = absurd (true≢false (sym q ∙ p))
 
@@ -124,13 +124,13 @@ module _ (b sum : ℕ) (f g : Bytes) (o : Out) (s : Stream) (x : ℕ) (p : s.che
     takes h = inv-going fed-behind h refl (stand-byte x w h (awaits-zero a)) nothing-early
 
     sticks :
-        shown s.check ≡ false → shown (fed s.check x) ≡ false → (j : ℕ) → j ≤ blanksDue s.early s.check (fed s.check x)
+        shown s.check ≡ false → shown (fed s.check x) ≡ false → (j : ℕ) → j ≤ blanks_due s.early s.check (fed s.check x)
         → Inv b sum f (x ∷ g) (then o (record { text = replicate j 0x20; ends = []; rows = [] })) (record { check = s.check; early = s.early + j; closed = s.closed })
-    unfolding blanksDue
-    sticks h₀ h j l = by (putsText s.check (fed s.check x)) refl
+    unfolding blanks_due
+    sticks h₀ h j l = by (puts_text s.check (fed s.check x)) refl
       where
         by :
-            (y : Bool) → putsText s.check (fed s.check x) ≡ y
+            (y : Bool) → puts_text s.check (fed s.check x) ≡ y
             → Inv b sum f (x ∷ g) (then o (record { text = replicate j 0x20; ends = []; rows = [] })) (record { check = s.check; early = s.early + j; closed = s.closed })
         by true q = inv-going p h₀ c₀ (stand-blanks x j w h q l) (content-next h q)
         by false q =
@@ -157,9 +157,9 @@ taken-after {b} {sum} f o x piece g u c h =
 pub feed-inv :
     {b sum : ℕ} {f : Bytes} {o : Out} {s : Stream} (piece g : Bytes) (r : Room) → Inv b sum f (piece ++ g) o s → After b sum f g o piece (streamed s piece r)
 unfolding streamed
-feed-inv [] g r h = idle-after [] g h
-feed-inv {b} {sum} {f} {o} {s} (x ∷ piece) g r (inv-over h k) = rw h (idle-after (x ∷ piece) g (inv-over h k))
-feed-inv {b} {sum} {f} {o} {s} (x ∷ piece) g r (inv-going p q c w a) =
+feed-inv {f = f} [] g r h = idle-after [] g h
+feed-inv {b} {sum} {f = f} {o} {s} (x ∷ piece) g r (inv-over h k) = rw h (idle-after (x ∷ piece) g (inv-over h k))
+feed-inv {b} {sum} {f = f} {o} {s} (x ∷ piece) g r (inv-going p q c w a) =
     rw (going-over s q c)
     (decide (After b sum f g o (x ∷ piece)) (shown (fed s.check x))
     (λ h. subst (λ (z : Out). Inv b sum (f ++ (x ∷ [])) (piece ++ g) z (onward (fed s.check x))) (sym (then-nothing o)) (shows b sum f (piece ++ g) o s x p w a c q h))
@@ -167,7 +167,7 @@ feed-inv {b} {sum} {f} {o} {s} (x ∷ piece) g r (inv-going p q c w a) =
     let e : Check = fed s.check x in
     let u : Out = due s.early s.check x e in
     decide (After b sum f g o (x ∷ piece)) (fits u r)
-    (λ i. taken-after f o x piece g u (streamed (onward e) piece (left u r)) (feed-inv piece g (left u r) (takes b sum f (piece ++ g) o s x p w a c q h)))
+    (λ i. taken-after f o x piece g u (streamed (onward e) piece (left u r)) (feed-inv {f = f ++ (x ∷ [])} piece g (left u r) (takes b sum f (piece ++ g) o s x p w a c q h)))
     (λ i.
-    subst (λ (l : Bytes). Inv b sum l (x ∷ (piece ++ g)) (then o (stuck s u r (min (blanksDue s.early s.check e) r.text)).out) (stuck s u r (min (blanksDue s.early s.check e) r.text)).state) (sym (append-nil f))
-    (sticks b sum f (piece ++ g) o s x p w a c q q h (min (blanksDue s.early s.check e) r.text) (omega arith)))))
+    subst (λ (l : Bytes). Inv b sum l (x ∷ (piece ++ g)) (then o (stuck s u r (min (blanks_due s.early s.check e) r.text)).out) (stuck s u r (min (blanks_due s.early s.check e) r.text)).state) (sym (append-nil f))
+    (sticks b sum f (piece ++ g) o s x p w a c q q h (min (blanks_due s.early s.check e) r.text) (omega arith)))))

@@ -25,8 +25,8 @@ use Rattle.pieces.proofs.Asking.{LastEnds, Asks, asks}
 use Rattle.format.specs.Answer.{accepted_as}
 use Rattle.output.specs.Out.{Out, nothing as none, then, out_of}
 use Rattle.format.specs.SoFar.{Begun, SoFar, so_far}
-use Rattle.output.specs.Stream.{shown, closeDue}
-use Rattle.output.specs.Promises.{wholeOut}
+use Rattle.output.specs.Stream.{shown, close_due}
+use Rattle.output.specs.Promises.{whole_out}
 use Rattle.format.proofs.Ended.{missing-ended}
 use Rattle.format.proofs.Every.{each-every, every-last}
 use Rattle.format.proofs.Grow.{blanks-join}
@@ -119,7 +119,7 @@ last_fits :
 last_fits {t = t} u cs c p e = every-last Fits (flatten u ++ cs) c (subst (Every Fits) (flatten-last t u cs c e) (reading-fits p))
 
 -- all of a table is out: up to its last line break, or with its last record closed
-out-whole : (t : Table) → out_of t [] [] 0 ≡ wholeOut t
+out-whole : (t : Table) → out_of t [] [] 0 ≡ whole_out t
 unfolding out_of flatten
 out-whole t =
     let q : flatten (flatten t ++ []) ++ [] ≡ flatten (flatten t) = append-nil (flatten (flatten t ++ [])) ∙ ap flatten (append-nil (flatten t)) in
@@ -128,7 +128,7 @@ out-whole t =
 
 out-last :
     (t u : Table) (cs : List Content) (c : Content) → t ≡ u ++ ((cs ++ (c ∷ [])) ∷ []) → length c ≤ content_limit
-    → then (out_of u cs c 0) (record { text = []; ends = length (text_of t) ∷ []; rows = length (flatten t) ∷ [] }) ≡ wholeOut t
+    → then (out_of u cs c 0) (record { text = []; ends = length (text_of t) ∷ []; rows = length (flatten t) ∷ [] }) ≡ whole_out t
 unfolding out_of
 out-last t u cs c e l =
     let y = flatten u ++ cs in
@@ -148,8 +148,8 @@ out-last t u cs c e l =
 
 pub closing-out :
     {b sum : ℕ} {f : Bytes} {c : Check} {o : Out} (t : Table) (r : ℕ) → Standing b sum f c 0 o → shown c ≡ false → Reading (dialect b sum) f t r
-    → asked c ≡ accepted_as t r → then o (closeDue c (accepted_as t r)) ≡ wholeOut t
-unfolding closeDue
+    → asked c ≡ accepted_as t r → then o (close_due c (accepted_as t r)) ≡ whole_out t
+unfolding close_due
 closing-out {b} {sum} {f} {c} {o} t r (standing {k} {t = u} {cs} {c = e} {n} {g} {h} w l q) s p a = by (eqb c.begun 0) refl (reading-ends (dialect b sum) p)
   where
     fields : (y : Bool) → eqb c.begun 0 ≡ y → length (flatten t) ≡ cond y c.counts.fields.0 (plus c.counts.fields.0 1)
@@ -159,7 +159,7 @@ closing-out {b} {sum} {f} {c} {o} t r (standing {k} {t = u} {cs} {c = e} {n} {g}
     ours = so_far w.records w.fields (at-begun w.at)
 
     by : (y : Bool) → eqb c.begun 0 ≡ y → Ends (dialect b sum) f t
-        → then o (record { text = []; ends = cond (not y) (length (text_of t) ∷ []) []; rows = cond (not y) (length (flatten t) ∷ []) [] }) ≡ wholeOut t
+        → then o (record { text = []; ends = cond (not y) (length (text_of t) ∷ []) []; rows = cond (not y) (length (flatten t) ∷ []) [] }) ≡ whole_out t
     by true i (at-break v) =
         let z = one-so-far (dialect b sum) ours v in
         then-nothing o ∙ (q ∙ ((λ j. out_of (z.0 j) (z.1 j) (z.2 j) 0) ∙ out-whole t))
@@ -206,10 +206,10 @@ then_same o p e =
 
 pub none_left :
     {b sum : ℕ} {f : Bytes} {c : Check} {o : Out} (t : Table) (r : ℕ) → Standing b sum f c 0 o → shown c ≡ false → Valid b sum → Reading (dialect b sum) f t r
-    → asked c ≡ accepted_as t r → (f ≡ []) ⊎ EndsInBreak f → closeDue c (accepted_as t r) ≡ none
-none_left {b} {sum} {f} {c} {o} t r w s v p a h = then_same o (closeDue c (accepted_as t r)) (closing-out t r w s p a ∙ sym (whole w))
+    → asked c ≡ accepted_as t r → (f ≡ []) ⊎ EndsInBreak f → close_due c (accepted_as t r) ≡ none
+none_left {b} {sum} {f} {c} {o} t r w s v p a h = then_same o (close_due c (accepted_as t r)) (closing-out t r w s p a ∙ sym (whole w))
   where
-    whole : Standing b sum f c 0 o → o ≡ wholeOut t
+    whole : Standing b sum f c 0 o → o ≡ whole_out t
     whole (standing w l q) =
         let z = one-so-far (dialect b sum) (so_far w.records w.fields (at-begun w.at)) (reading-far (dialect b sum) v.0 h p) in
         q ∙ ((λ j. out_of (z.0 j) (z.1 j) (z.2 j) 0) ∙ out-whole t)

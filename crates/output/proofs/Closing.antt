@@ -15,13 +15,13 @@ use Rattle.pieces.specs.Asked.{asked}
 use Rattle.output.specs.declared.Stream.{Stream}
 use Rattle.output.specs.declared.Streamed.{Streamed}
 use Rattle.output.specs.Out.{nothing}
-use Rattle.output.specs.Stream.{is_over, idle, Room, fits, short_of, Called, onward, streamStarted, closeDue, closed, answer_of, closedBy}
-use Rattle.output.specs.Promises.{Into, roomOf, Started, Closed}
+use Rattle.output.specs.Stream.{is_over, idle, Room, fits, short_of, Called, onward, stream_started, close_due, closed, answer_of, closed_by}
+use Rattle.output.specs.Promises.{Into, room_of, Started, Closed}
 use Rattle.output.proofs.Meaning.{so-started, so-closed}
 
 -- the start, by the check's
 pub start-onward : {b sum : ℕ} {c : Check} {s : Stream} → c ≡ started b sum → s ≡ onward c → Started b sum s
-unfolding streamStarted
+unfolding stream_started
 start-onward p q = so-started (q ∙ ap onward p)
 
 -- the close: a refusal or no open record leaves nothing to put out
@@ -49,17 +49,17 @@ module _ (s : Stream) (r : Room) where
 
   module _ (a : Answer) (e : a ≡ asked s.check) (h : is_over s ≡ false) where
     closed_none : (not (eqb a.refusal 0) || eqb s.check.begun 0) ≡ true → closed s r ≡ quiet (ended s) 0
-    unfolding closed closeDue fits
+    unfolding closed close_due fits
     closed_none i =
         rw (h, ← e, declines _ _ i, le-leb 0 r.text (omega arith), le-leb 0 r.ends (omega arith), le-leb 0 r.rows (omega arith))
 
     module _ (i : (not (eqb a.refusal 0) || eqb s.check.begun 0) ≡ false) where
       closed-no-ends : r.ends ≡ 0 → closed s r ≡ quiet s 12
-      unfolding closed closeDue fits short_of
+      unfolding closed close_due fits short_of
       closed-no-ends j = rw (h, ← e, accepts _ _ i, le-leb 0 r.text (omega arith), lt-leb 1 r.ends (omega arith))
 
       closed-no-rows : (r.ends ≡ 0 → ⊥) → r.rows ≡ 0 → closed s r ≡ quiet s 13
-      unfolding closed closeDue fits short_of
+      unfolding closed close_due fits short_of
       closed-no-rows j k =
           rw (h, ← e, accepts _ _ i, le-leb 0 r.text (omega arith), le-leb 1 r.ends (omega arith), lt-leb 1 r.rows (omega arith))
 
@@ -67,14 +67,14 @@ module _ (s : Stream) (r : Room) where
           (r.ends ≡ 0 → ⊥) → (r.rows ≡ 0 → ⊥)
           → closed s r
           ≡ record { taken = 0; out = record { text = []; ends = a.totals.text ∷ []; rows = a.totals.fields.0 ∷ [] }; short = 0; state = ended s }
-      unfolding closed closeDue fits
+      unfolding closed close_due fits
       closed-full j k =
           rw (h, ← e, accepts _ _ i, le-leb 0 r.text (omega arith), le-leb 1 r.ends (omega arith), le-leb 1 r.rows (omega arith))
 
 -- what the code tells of a call
 abbrev pub told : Stream → ℕ → ℕ → ℕ → Streamed
 told s ends rows n =
-    record { state = s; taken = 0; text = 0; ends = ends; rows = rows; short = n; closed = closedBy s; answer = answer_of s }
+    record { state = s; taken = 0; text = 0; ends = ends; rows = rows; short = n; closed = closed_by s; answer = answer_of s }
 
 told-into :
     {c : Called} {ends rows ends' rows' : List ℕ} {r : Streamed} (s : Stream) (n : ℕ) (x y : List ℕ)
@@ -105,25 +105,25 @@ set_front (x ∷ l) n h = refl
 
 module _ (s : Stream) (ends rows : List ℕ) {r : Streamed} where
   pub close-over : is_over s ≡ true → r ≡ told s 0 0 0 → Closed s ends rows r ends rows
-  close-over h q = so-closed (quiet-into s 0 (closed-over s (roomOf [] ends rows) h) q)
+  close-over h q = so-closed (quiet-into s 0 (closed-over s (room_of [] ends rows) h) q)
 
   module _ (a : Answer) (e : a ≡ asked s.check) (h : is_over s ≡ false) where
     pub close-none :
         {u : Stream} → (not (eqb a.refusal 0) || eqb s.check.begun 0) ≡ true → u ≡ ended s → r ≡ told u 0 0 0 → Closed s ends rows r ends rows
     close-none i p q =
-        so-closed (quiet-into (ended s) 0 (closed_none s (roomOf [] ends rows) a e h i) (q ∙ ap (λ (x : Stream). told x 0 0 0) p))
+        so-closed (quiet-into (ended s) 0 (closed_none s (room_of [] ends rows) a e h i) (q ∙ ap (λ (x : Stream). told x 0 0 0) p))
 
     module _ (i : (not (eqb a.refusal 0) || eqb s.check.begun 0) ≡ false) where
       pub close-no-ends : length ends ≡ 0 → r ≡ told s 0 0 12 → Closed s ends rows r ends rows
-      close-no-ends j q = so-closed (quiet-into s 12 (closed-no-ends s (roomOf [] ends rows) a e h i j) q)
+      close-no-ends j q = so-closed (quiet-into s 12 (closed-no-ends s (room_of [] ends rows) a e h i j) q)
 
       pub close-no-rows : (length ends ≡ 0 → ⊥) → length rows ≡ 0 → r ≡ told s 0 0 13 → Closed s ends rows r ends rows
-      close-no-rows j k q = so-closed (quiet-into s 13 (closed-no-rows s (roomOf [] ends rows) a e h i j k) q)
+      close-no-rows j k q = so-closed (quiet-into s 13 (closed-no-rows s (room_of [] ends rows) a e h i j k) q)
 
       pub close-full :
           {u : Stream} → (length ends ≡ 0 → ⊥) → (length rows ≡ 0 → ⊥) → u ≡ ended s → r ≡ told u 1 1 0
           → Closed s ends rows r (set ends 0 a.totals.text) (set rows 0 a.totals.fields.0)
       close-full j k p q =
           so-closed
-          (told-into (ended s) 0 (a.totals.text ∷ []) (a.totals.fields.0 ∷ []) (closed-full s (roomOf [] ends rows) a e h i j k)
+          (told-into (ended s) 0 (a.totals.text ∷ []) (a.totals.fields.0 ∷ []) (closed-full s (room_of [] ends rows) a e h i j k)
           (q ∙ ap (λ (x : Stream). told x 1 1 0) p) (set_front ends a.totals.text j) (set_front rows a.totals.fields.0 k))

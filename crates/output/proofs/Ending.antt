@@ -17,7 +17,7 @@ use Rattle.state.specs.Check.{fed}
 use Rattle.state.proofs.Byte.{FieldEnds, RecordEnds, Does, act_of, fed-does}
 use Rattle.output.specs.declared.Stream.{Stream}
 use Rattle.output.specs.Out.{Out}
-use Rattle.output.specs.Stream.{shown, is_over, putsText, due, Room, fits, left, Called, onward, streamed, left_of}
+use Rattle.output.specs.Stream.{shown, is_over, puts_text, due, Room, fits, left, Called, onward, streamed, left_of}
 use Rattle.output.specs.Promises.{Awaits, nothing-early, content-next}
 use Rattle.output.proofs.Step.{clear}
 use Rattle.output.proofs.Meaning.{shown-before}
@@ -27,13 +27,13 @@ use Rattle.output.proofs.Progress.{stuck-some}
 -- what a byte does to the blanks held: at most one more, and none behind content
 record Held (c r : Check) : Type 0 where
   most : r.field.held ≤ c.field.held + 1
-  none : putsText c r ≡ true → r.field.held ≡ 0
+  none : puts_text c r ≡ true → r.field.held ≡ 0
 
 held-fed : (c : Check) (b : ℕ) → shown (fed c b) ≡ false → Held c (fed c b)
 held-fed c b s = by (act_of c b) (step-proper _ _ _) (fed-does c b (clear c (shown-before c b s)).refusal)
   where
     -- where content stays as it was, or grows smaller, the byte is no content
-    no-puts : {A : Type 0} → (fed c b).field.content ≤ c.field.content → putsText c (fed c b) ≡ true → A
+    no-puts : {A : Type 0} → (fed c b).field.content ≤ c.field.content → puts_text c (fed c b) ≡ true → A
     no-puts l p = absurd (true≢false (sym p ∙ ap not (le-leb (fed c b).field.content c.field.content l)))
 
     refused : {A : Type 0} (n : ℕ) → eqb n 0 ≡ false → (fed c b).refusal ≡ n → A

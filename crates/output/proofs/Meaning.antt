@@ -19,9 +19,9 @@ use Rattle.steps.proofs.Verdicts.{no-valid}
 use Rattle.output.specs.declared.Stream.{Stream}
 use Rattle.output.specs.Out.{Out, nothing, out_of, CameOut, came-out}
 use Rattle.format.specs.SoFar.{so_far}
-use Rattle.output.specs.Stream.{shown, is_over, Called, streamStarted, streamed, closed}
+use Rattle.output.specs.Stream.{shown, is_over, Called, stream_started, streamed, closed}
 use Rattle.output.specs.declared.Streamed.{Streamed}
-use Rattle.output.specs.Promises.{Into, roomOf, Stands, no_dialect, going, refused, declined, accepted, Started, Fed, Closed}
+use Rattle.output.specs.Promises.{Into, room_of, Stands, no_dialect, going, refused, declined, accepted, Started, Fed, Closed}
 use Rattle.steps.proofs.Forms.{at-begun}
 use Rattle.output.proofs.Step.{Standing, standing, clear, stand-byte, not-shown}
 use Rattle.steps.proofs.One.{one-so-far}
@@ -87,22 +87,22 @@ stands-inv {s} (declined p q c h o) = inv-over (closed-over s c) (λ g. declined
 stands-inv {s} (accepted p c h o) = inv-over (closed-over s c) (λ g. accepted p c h o)
 
 -- The result decides the rest of each promise.
-pub so-started : {b sum : ℕ} {s : Stream} → s ≡ streamStarted b sum → Started b sum s
+pub so-started : {b sum : ℕ} {s : Stream} → s ≡ stream_started b sum → Started b sum s
 so-started {b} {sum} q = record { result = q; stands = λ g. subst (Stands b sum [] g nothing) (sym q) (inv-stands (start-inv b sum g)) }
 
 pub so-fed :
     {s : Stream} {piece text : Bytes} {ends rows : List ℕ} {r : Streamed} {text' : Bytes} {ends' rows' : List ℕ}
-    → Into (streamed s piece (roomOf text ends rows)) text ends rows r text' ends' rows' → Fed s piece text ends rows r text' ends' rows'
+    → Into (streamed s piece (room_of text ends rows)) text ends rows r text' ends' rows' → Fed s piece text ends rows r text' ends' rows'
 so-fed {s} {piece} {text} {ends} {rows} q =
     record {
       into = q;
-      stands = λ b sum f g o h. rw (q.taken, q.state) (inv-stands (feed-inv piece g (roomOf text ends rows) (stands-inv h)));
+      stands = λ b sum f g o h. rw (q.taken, q.state) (inv-stands (feed-inv piece g (room_of text ends rows) (stands-inv h)));
     }
 
 pub so-closed :
     {s : Stream} {ends rows : List ℕ} {r : Streamed} {ends' rows' : List ℕ}
-    → Into (closed s (roomOf [] ends rows)) [] ends rows r [] ends' rows' → Closed s ends rows r ends' rows'
-so-closed {s} {ends} {rows} q = record { into = q; stands = λ b sum f o h. rw q.state (inv-stands (close-inv (roomOf [] ends rows) (stands-inv h))) }
+    → Into (closed s (room_of [] ends rows)) [] ends rows r [] ends' rows' → Closed s ends rows r ends' rows'
+so-closed {s} {ends} {rows} q = record { into = q; stands = λ b sum f o h. rw q.state (inv-stands (close-inv (room_of [] ends rows) (stands-inv h))) }
 
 -- Any two outcomes that a promise allows are equal.
 pub start-one : (b sum : ℕ) (s u : Stream) → Started b sum s → Started b sum u → s ≡ u

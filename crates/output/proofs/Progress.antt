@@ -17,26 +17,26 @@ use Rattle.state.specs.Check.{fed}
 use Rattle.pieces.specs.Asked.{asked}
 use Rattle.output.specs.declared.Stream.{Stream}
 use Rattle.output.specs.Out.{Out, nothing}
-use Rattle.output.specs.Stream.{shown, is_over, putsText, endsField, endsRecord, byteLeft, when, blanksDue, due, Room, fits, left, short_of, Called, onward, taking, streamed, closeDue, closed}
+use Rattle.output.specs.Stream.{shown, is_over, puts_text, ends_field, ends_record, byte_left, when, blanks_due, due, Room, fits, left, short_of, Called, onward, taking, streamed, close_due, closed}
 use Rattle.output.proofs.Bytewise.{shown-over, fits-parts}
 
 one-most : (x : Bool) (n : ℕ) → length (when x n) ≤ 1
 one-most true n = omega arith
 one-most false n = omega arith
 
-due-text : (m : ℕ) (c : Check) (b : ℕ) (e : Check) → length (due m c b e).text ≤ blanksDue m c e + 1
+due-text : (m : ℕ) (c : Check) (b : ℕ) (e : Check) → length (due m c b e).text ≤ blanks_due m c e + 1
 unfolding due
 due-text m c b e =
-    let y : length {A = ℕ} (replicate (blanksDue m c e) 0x20) ≡ blanksDue m c e = length-replicate (blanksDue m c e) 0x20 in
-    omega (arith, length-append (replicate (blanksDue m c e) 0x20) (when (putsText c e && byteLeft c) b), one-most (putsText c e && byteLeft c) b)
+    let y : length {A = ℕ} (replicate (blanks_due m c e) 0x20) ≡ blanks_due m c e = length-replicate (blanks_due m c e) 0x20 in
+    omega (arith, length-append (replicate (blanks_due m c e) 0x20) (when (puts_text c e && byte_left c) b), one-most (puts_text c e && byte_left c) b)
 
 due-ends : (m : ℕ) (c : Check) (b : ℕ) (e : Check) → (length (due m c b e).ends ≤ 1) × (length (due m c b e).rows ≤ 1)
 unfolding due
-due-ends m c b e = (one-most (endsField e) e.counts.text, one-most (endsRecord e) e.counts.fields.0)
+due-ends m c b e = (one-most (ends_field e) e.counts.text, one-most (ends_record e) e.counts.fields.0)
 
-pub blanks-held : (m : ℕ) (c e : Check) (k : ℕ) → 1 ≤ k → k ≤ blanksDue m c e → m + k ≤ c.field.held
-unfolding blanksDue
-blanks-held m c e k i = by (putsText c e)
+pub blanks-held : (m : ℕ) (c e : Check) (k : ℕ) → 1 ≤ k → k ≤ blanks_due m c e → m + k ≤ c.field.held
+unfolding blanks_due
+blanks-held m c e k i = by (puts_text c e)
   where
     by : (y : Bool) → k ≤ cond y (min (c.field.held - m) (content_limit - (c.field.content + m))) 0 → m + k ≤ c.field.held
     by true h = omega arith
@@ -56,15 +56,15 @@ short-text o r h p q =
 -- where a call sticks with such room, a held blank comes out
 pub stuck-some :
     (m : ℕ) (c : Check) (b : ℕ) (e : Check) (r : Room) → fits (due m c b e) r ≡ false → 1 ≤ r.text → 1 ≤ r.ends → 1 ≤ r.rows
-    → (1 ≤ min (blanksDue m c e) r.text) × (m + min (blanksDue m c e) r.text ≤ c.field.held)
+    → (1 ≤ min (blanks_due m c e) r.text) × (m + min (blanks_due m c e) r.text ≤ c.field.held)
 stuck-some m c b e r j x y z =
     let u = due-ends m c b e in
     let u₀ = u.0 in
     let u₁ = u.1 in
     let v = due-text m c b e in
     let w = short-text (due m c b e) r j (omega arith) (omega arith) in
-    let some : 1 ≤ min (blanksDue m c e) r.text = omega arith in
-    (some, blanks-held m c e (min (blanksDue m c e) r.text) some (omega arith))
+    let some : 1 ≤ min (blanks_due m c e) r.text = omega arith in
+    (some, blanks-held m c e (min (blanks_due m c e) r.text) some (omega arith))
 
 -- a byte is taken, or held blanks come out that were not out yet
 abbrev GoesOn : Stream → Called → Type 0
@@ -80,7 +80,7 @@ goes_on s b f r h x y z =
     let e : Check = fed s.check b in
     decide (GoesOn s) (fits (due s.early s.check b e) r) (λ j. inl (omega arith))
     (λ j.
-    let k : ℕ = min (blanksDue s.early s.check e) r.text in
+    let k : ℕ = min (blanks_due s.early s.check e) r.text in
     let l : length {A = ℕ} (replicate k 0x20) ≡ k = length-replicate k 0x20 in
     let w = (stuck-some s.early s.check b e r j x y z).0 in
     inr (omega arith, ap (λ (n : ℕ). s.early + n) (sym l)))))
@@ -160,7 +160,7 @@ stays_within (b ∷ f) s r =
     decide (Within (b ∷ f) r) (fits o r)
     (λ j. within_more b f o r (streamed (onward (fed s.check b)) f (left o r)) (fits-parts o r j) (stays_within f (onward (fed s.check b)) (left o r)))
     (λ j.
-    let k : ℕ = min (blanksDue s.early s.check (fed s.check b)) r.text in
+    let k : ℕ = min (blanks_due s.early s.check (fed s.check b)) r.text in
     let l : length {A = ℕ} (replicate k 0x20) ≡ k = length-replicate k 0x20 in
     record { taken = omega arith; text = omega arith; ends = omega arith; rows = omega arith })))
 
@@ -190,7 +190,7 @@ module _ (s : Stream) (r : Room) where
   unfolding closed
   close-stays =
       decide Stays (is_over s) (λ h n. (refl, refl))
-      (λ h. decide Stays (fits (closeDue s.check (asked s.check)) r) (λ i n. absurd (n refl)) (λ i n. (refl, refl)))
+      (λ h. decide Stays (fits (close_due s.check (asked s.check)) r) (λ i n. absurd (n refl)) (λ i n. (refl, refl)))
     where
       Stays : Called → Type 0
       Stays c = (c.short ≡ 0 → ⊥) → (c.out ≡ nothing) × (c.state ≡ s)
@@ -199,14 +199,14 @@ module _ (s : Stream) (r : Room) where
   unfolding closed
   close_ends =
       decide Ends (is_over s) (λ h n. h)
-      (λ h. let o : Out = closeDue s.check (asked s.check) in
+      (λ h. let o : Out = close_due s.check (asked s.check) in
       decide Ends (fits o r) (λ i n. or-true (shown s.check)) (λ i n. let l = lacks o r i in absurd (omega arith)))
     where
       Ends : Called → Type 0
       Ends c = c.short ≡ 0 → is_over c.state ≡ true
 
-  due-one : (c : Check) (a : Answer) → 1 ≤ r.ends → 1 ≤ r.rows → fits (closeDue c a) r ≡ true
-  unfolding closeDue fits
+  due-one : (c : Check) (a : Answer) → 1 ≤ r.ends → 1 ≤ r.rows → fits (close_due c a) r ≡ true
+  unfolding close_due fits
   due-one c a x y =
       let z : Bool = eqb a.refusal 0 && not (eqb c.begun 0) in
       let u = one-most z a.totals.text in

@@ -30,8 +30,8 @@ use Rattle.pieces.proofs.Stands.{one_answer}
 use Rattle.output.specs.declared.Stream.{Stream}
 use Rattle.output.specs.declared.Streamed.{Streamed}
 use Rattle.output.specs.Out.{Out, nothing, out_of, Contents}
-use Rattle.output.specs.Stream.{shown, is_over, Room, fits, Called, closeDue, closed, answer_of, closedBy}
-use Rattle.output.specs.Promises.{Awaits, nothing-early, content-next, wholeOut, Stands, no_dialect, going, refused, declined, accepted, Into}
+use Rattle.output.specs.Stream.{shown, is_over, Room, fits, Called, close_due, closed, answer_of, closed_by}
+use Rattle.output.specs.Promises.{Awaits, nothing-early, content-next, whole_out, Stands, no_dialect, going, refused, declined, accepted, Into}
 use Rattle.output.proofs.Step.{Standing, standing, clear}
 use Rattle.output.proofs.Calls.{Inv, inv-going, inv-over, going-over, awaits-none}
 use Rattle.output.proofs.Close.{reading-fits, none_left}
@@ -49,8 +49,8 @@ module _ (s : Stream) where
       by true a h = refl
       by false a h = absurd (h refl)
 
-  pub closed-over : closedBy s ≡ 1 → (is_over s ≡ true) × ((answer_of s).refusal ≡ 0)
-  unfolding closedBy
+  pub closed-over : closed_by s ≡ 1 → (is_over s ≡ true) × ((answer_of s).refusal ≡ 0)
+  unfolding closed_by
   closed-over h = by (eqb s.closed 0) refl (eqb (asked s.check).refusal 0) refl h
     where
       by : (x : Bool) → eqb s.closed 0 ≡ x → (y : Bool) → eqb (asked s.check).refusal 0 ≡ y → ◌≡◌ {A = ℕ} (cond x 0 (cond y 1 0)) 1
@@ -61,8 +61,8 @@ module _ (s : Stream) where
           let o : is_over s ≡ true = rw e (or-true (shown s.check)) in
           (o, ap (λ (a : Answer). a.refusal) (sym (asked_is s o)) ∙ eqb-true (asked s.check).refusal 0 i)
 
-  pub over-ended : is_over s ≡ true → ((answer_of s).refusal ≡ 0 → ⊥) ⊎ (closedBy s ≡ 1)
-  unfolding closedBy
+  pub over-ended : is_over s ≡ true → ((answer_of s).refusal ≡ 0 → ⊥) ⊎ (closed_by s ≡ 1)
+  unfolding closed_by
   over-ended o = by (eqb (asked s.check).refusal 0) refl (shown s.check) refl (eqb s.closed 0) refl o
     where
       by : (y : Bool) → eqb (asked s.check).refusal 0 ≡ y → (x : Bool) → shown s.check ≡ x → (z : Bool) → eqb s.closed 0 ≡ z → (x || not z) ≡ true
@@ -97,8 +97,8 @@ answers-accepted (Answers.refused h) z = let k = refused-number h in absurd (ome
 
 -- An accepted close: what is out is the table, and the answer is the reader's.
 pub stands-closed :
-    {b sum : ℕ} {f g : Bytes} {o : Out} {s : Stream} → Stands b sum f g o s → closedBy s ≡ 1
-    → (t : Table) × (r : ℕ) × Accepted b sum f t r × (answer_of s ≡ accepted_as t r) × (o ≡ wholeOut t)
+    {b sum : ℕ} {f g : Bytes} {o : Out} {s : Stream} → Stands b sum f g o s → closed_by s ≡ 1
+    → (t : Table) × (r : ℕ) × Accepted b sum f t r × (answer_of s ≡ accepted_as t r) × (o ≡ whole_out t)
 stands-closed {s = s} h k =
     let e = closed-over s k in
     let (t, r, a) = answers-accepted (answer-is-check h e.0) e.1 in
@@ -130,7 +130,7 @@ out-contents t cs c m f =
 standing-contents : {x sum m : ℕ} {f : Bytes} {e : Check} {o : Out} → Standing x sum f e m o → Contents o
 standing-contents {m = m} (standing {t = t} {cs} {c} w l q) = subst Contents (sym q) (out-contents t cs c m w.fits)
 
-table-contents : (t : Table) → Every Fits (flatten t) → Contents (wholeOut t)
+table-contents : (t : Table) → Every Fits (flatten t) → Contents (whole_out t)
 table-contents t f =
     record { whole = flatten t; last = []; text_is = sym (append-nil (flatten (flatten t))); ends_are = refl; fit = f; cut = omega arith }
 
@@ -156,7 +156,7 @@ stands-awaits {s = s} (declined p q c h o) = inl (ended-over s c)
 stands-awaits {s = s} (accepted p c h o) = inl (ended-over s c)
 
 -- A file that is empty, or ends in a line break, needs no room at its close.
-none-due : (s : Stream) (r : Room) (x : Answer) → asked s.check ≡ x → closeDue s.check x ≡ nothing → is_over s ≡ false → ((closed s r).short ≡ 0) × ((closed s r).out ≡ nothing)
+none-due : (s : Stream) (r : Room) (x : Answer) → asked s.check ≡ x → close_due s.check x ≡ nothing → is_over s ≡ false → ((closed s r).short ≡ 0) × ((closed s r).out ≡ nothing)
 unfolding closed fits
 none-due s r x i j k = rw (k, i, j, le-leb 0 r.text (omega arith), le-leb 0 r.ends (omega arith), le-leb 0 r.rows (omega arith)) (refl, refl)
 

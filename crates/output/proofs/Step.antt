@@ -25,7 +25,7 @@ use Rattle.state.specs.Check.{evenly, fed}
 use Rattle.state.proofs.Moves.{fed-keeps, fed-byte}
 use Rattle.state.proofs.Byte.{Within, Over, FieldEnds, RecordEnds, Does, act_of, fed-does}
 use Rattle.output.specs.Out.{Out, then, out_of}
-use Rattle.output.specs.Stream.{shown, putsText, endsField, byteLeft, when, blanksDue, due}
+use Rattle.output.specs.Stream.{shown, puts_text, ends_field, byte_left, when, blanks_due, due}
 use Rattle.steps.proofs.Forms.{At, at_start, at_lead, at_bare, at_quoted, at_shut, at_tail, at_cr, held_in, Makes, makes, fault-number}
 use Rattle.format.proofs.Even.{width-more, even-more}
 use Rattle.format.proofs.Every.{every_one}
@@ -126,27 +126,27 @@ pub then-nothing : (o : Out) → then o (record { text = []; ends = []; rows = [
 then-nothing o = λ i. record { text = append-nil o.text i; ends = append-nil o.ends i; rows = append-nil o.rows i }
 
 module _ (m : ℕ) (e : Check) (b : ℕ) (r : Check) where
-  pub due-quiet : putsText e r ≡ false → endsField r ≡ false → due m e b r ≡ record { text = []; ends = []; rows = [] }
-  unfolding due blanksDue
+  pub due-quiet : puts_text e r ≡ false → ends_field r ≡ false → due m e b r ≡ record { text = []; ends = []; rows = [] }
+  unfolding due blanks_due
   due-quiet p q = rw (p, q)
 
   pub due-text :
-      putsText e r ≡ true → endsField r ≡ false
+      puts_text e r ≡ true → ends_field r ≡ false
       → due m e b r
-      ≡ record { text = replicate (min (e.field.held - m) (content_limit - (e.field.content + m))) 0x20 ++ when (byteLeft e) b; ends = []; rows = [] }
-  unfolding due blanksDue
+      ≡ record { text = replicate (min (e.field.held - m) (content_limit - (e.field.content + m))) 0x20 ++ when (byte_left e) b; ends = []; rows = [] }
+  unfolding due blanks_due
   due-text p q = rw (p, q)
 
   pub due-field :
-      putsText e r ≡ false → endsField r ≡ true → eqb r.begun 0 ≡ false
+      puts_text e r ≡ false → ends_field r ≡ true → eqb r.begun 0 ≡ false
       → due m e b r ≡ record { text = []; ends = r.counts.text ∷ []; rows = [] }
-  unfolding due blanksDue
+  unfolding due blanks_due
   due-field p q u = rw (p, q, u)
 
   pub due-record :
-      putsText e r ≡ false → endsField r ≡ true → eqb r.begun 0 ≡ true
+      puts_text e r ≡ false → ends_field r ≡ true → eqb r.begun 0 ≡ true
       → due m e b r ≡ record { text = []; ends = r.counts.text ∷ []; rows = r.counts.fields.0 ∷ [] }
-  unfolding due blanksDue
+  unfolding due blanks_due
   due-record p q u = rw (p, q, u)
 
 module _
@@ -160,7 +160,7 @@ module _
     more = b ∷ []
 
     abbrev Good : Check → Type 0
-    Good r = shown r ≡ false → (putsText e r ≡ false → m ≡ 0) → Standing x sum (f ++ (b ∷ [])) r 0 (then (out_of t cs c m) (due m e b r))
+    Good r = shown r ≡ false → (puts_text e r ≡ false → m ≡ 0) → Standing x sum (f ++ (b ∷ [])) r 0 (then (out_of t cs c m) (due m e b r))
 
     -- what every act keeps
     record Kept (r : Check) : Type 0 where
@@ -227,8 +227,8 @@ module _
         → r.field.content ≡ e.field.content → r.field.held ≡ n' → n' ≤ n + 1 → Good r
     quiet r j n' i v q a p o l s u =
         let y₀ : leb r.field.content e.field.content ≡ true = rw p (leb-self e.field.content) in
-        let y : putsText e r ≡ false = ap not y₀ in
-        let z : endsField r ≡ false = rw q (not_start a (grown h b)) in
+        let y : puts_text e r ≡ false = ap not y₀ in
+        let z : ends_field r ≡ false = rw q (not_start a (grown h b)) in
         standing (inner r j c n' i v s q a (p ∙ w.content) o (omega arith)) (omega arith)
         (rw (due-quiet m e b r y z) (then-nothing (out_of t cs c m) ∙ zero-out (u y)))
 
@@ -264,8 +264,8 @@ module _
         let w₄ = w.limit in
         let p' : r.field.content ≡ length c + n + 1 = omega arith in
         let y₀ : leb r.field.content e.field.content ≡ false = lt-leb r.field.content e.field.content (omega arith) in
-        let y : putsText e r ≡ true = ap not y₀ in
-        let z : endsField r ≡ false = rw q (not_start a (grown h b)) in
+        let y : puts_text e r ≡ true = ap not y₀ in
+        let z : ends_field r ≡ false = rw q (not_start a (grown h b)) in
         standing (inner r j (c ++ (replicate n 0x20 ++ (b ∷ []))) 0 i v s q a (p' ∙ sym l) o (omega arith)) (omega arith)
         (rw (due-text m e b r y z, w₁, w₂) put-out)
 
@@ -320,7 +320,7 @@ module _
     ended-count : (r : Check) (u : ℕ) → Ended r u → r.counts.fields.0 ≡ length (flatten t ++ cs) + 1
     ended-count r u v = let w₁ = w.count in let w₃ = w.ends in let w₄ = w.limit in v.count ∙ omega arith
 
-    no_text : (r : Check) (u : ℕ) → Ended r u → putsText e r ≡ false
+    no_text : (r : Check) (u : ℕ) → Ended r u → puts_text e r ≡ false
     no_text r u v = let y : leb r.field.content e.field.content ≡ true = rw v.content (le-leb 0 e.field.content (omega arith)) in ap not y
 
     field-ends :
@@ -363,7 +363,7 @@ module _
           wide = w.wide;
         } in
         let o : due m e b r ≡ record { text = []; ends = r.counts.text ∷ []; rows = [] } =
-        let f₁ : endsField r ≡ true = rw v.form in
+        let f₁ : ends_field r ≡ true = rw v.form in
         let f₂ : eqb r.begun 0 ≡ false = rw v.begun in
         due-field m e b r p f₁ f₂ in
         standing kn (omega arith) (rw (o, et, u p) (field_out l))
@@ -427,7 +427,7 @@ module _
           wide = every_one (λ (cs : List Content). 1 ≤ length cs) t row w.wide (let w₈ = length-append cs (c ∷ []) in omega arith);
         } in
         let o : due m e b r ≡ record { text = []; ends = r.counts.text ∷ []; rows = r.counts.fields.0 ∷ [] } =
-        let f₁ : endsField r ≡ true = rw v.form in
+        let f₁ : ends_field r ≡ true = rw v.form in
         let f₂ : eqb r.begun 0 ≡ true = rw v.begun in
         due-record m e b r p f₁ f₂ in
         standing kn (omega arith) (rw (o, et, ec, u p) (record-out l))
@@ -478,7 +478,7 @@ module _
 
 -- taking a byte that shows no refusal
 pub stand-byte :
-    {x sum m : ℕ} {f : Bytes} {e : Check} {o : Out} (b : ℕ) → Standing x sum f e m o → shown (fed e b) ≡ false → (putsText e (fed e b) ≡ false → m ≡ 0)
+    {x sum m : ℕ} {f : Bytes} {e : Check} {o : Out} (b : ℕ) → Standing x sum f e m o → shown (fed e b) ≡ false → (puts_text e (fed e b) ≡ false → m ≡ 0)
     → Standing x sum (f ++ (b ∷ [])) (fed e b) 0 (then o (due m e b (fed e b)))
 stand-byte {x} {sum} {m} {f} {e} {o} b (standing {k} {t} {cs} {c} {n} {g} {h} w l q) s u =
     subst (λ (p : Out). Standing x sum (f ++ (b ∷ [])) (fed e b) 0 (then p (due m e b (fed e b)))) (sym q) (taken-byte x sum f e b m k t cs c n g h w l s u)
@@ -486,7 +486,7 @@ stand-byte {x} {sum} {m} {f} {e} {o} b (standing {k} {t} {cs} {c} {n} {g} {h} w 
 -- behind a CR no byte is content
 module _ (e : Check) where
   abbrev No : Check → Type 0
-  No r = shown r ≡ false → putsText e r ≡ true → ⊥
+  No r = shown r ≡ false → puts_text e r ≡ true → ⊥
 
   none-put : (r : Check) → r.field.content ≡ 0 → No r
   none-put r q s p =
@@ -518,10 +518,10 @@ module _
 
 held_all :
     {x sum : ℕ} {f : Bytes} {e : Check} {k : Form} {t : Table} {cs : List Content} {c : Content} {n : ℕ} {g h : Bytes} (b : ℕ) → Known x sum f e k t cs c n g h
-    → shown (fed e b) ≡ false → putsText e (fed e b) ≡ true → held_in k n ≡ n
+    → shown (fed e b) ≡ false → puts_text e (fed e b) ≡ true → held_in k n ≡ n
 held_all {x} {sum} {f} {e} {k} {t} {cs} {c} {n} {g} {h} b w = go k w
   where
-    go : (k : Form) → Known x sum f e k t cs c n g h → shown (fed e b) ≡ false → putsText e (fed e b) ≡ true → held_in k n ≡ n
+    go : (k : Form) → Known x sum f e k t cs c n g h → shown (fed e b) ≡ false → puts_text e (fed e b) ≡ true → held_in k n ≡ n
     go start w s p = refl
     go lead w s p = refl
     go bare w s p = refl
@@ -532,9 +532,9 @@ held_all {x} {sum} {f} {e} {k} {t} {cs} {c} {n} {g} {h} b w = go k w
 
 -- held blanks that come out before a byte of content
 pub stand-blanks :
-    {x sum m : ℕ} {f : Bytes} {e : Check} {o : Out} (b j : ℕ) → Standing x sum f e m o → shown (fed e b) ≡ false → putsText e (fed e b) ≡ true
-    → j ≤ blanksDue m e (fed e b) → Standing x sum f e (m + j) (then o (record { text = replicate j 0x20; ends = []; rows = [] }))
-unfolding blanksDue out_of
+    {x sum m : ℕ} {f : Bytes} {e : Check} {o : Out} (b j : ℕ) → Standing x sum f e m o → shown (fed e b) ≡ false → puts_text e (fed e b) ≡ true
+    → j ≤ blanks_due m e (fed e b) → Standing x sum f e (m + j) (then o (record { text = replicate j 0x20; ends = []; rows = [] }))
+unfolding blanks_due out_of
 stand-blanks {x} {sum} {m} {f} {e} {o} b j (standing {k} {t} {cs} {c} {n} {g} {h} w l q) s p i =
     let a = held_all b w s p in
     let w₁ = w.content in

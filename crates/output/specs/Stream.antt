@@ -17,44 +17,44 @@ unfoldable pub shown : Check → Bool
 shown c = not (is_valid c.delimiter c.leniencies) || (not (leb c.here.byte.0 file_limit) || not (eqb c.refusal 0))
 
 -- a stream before any byte
-unfoldable pub streamStarted : ℕ → ℕ → Stream
-streamStarted b sum = record { check = started b sum; early = 0; closed = 0 }
+unfoldable pub stream_started : ℕ → ℕ → Stream
+stream_started b sum = record { check = started b sum; early = 0; closed = 0 }
 
 -- nothing more is taken or put out
 abbrev pub is_over : Stream → Bool
 is_over s = shown s.check || not (eqb s.closed 0)
 
 -- By the check before a byte, c, and behind it, e: the byte is content; it ended a field; it ended a record.
-abbrev pub putsText : Check → Check → Bool
-putsText c e = not (leb e.field.content c.field.content)
+abbrev pub puts_text : Check → Check → Bool
+puts_text c e = not (leb e.field.content c.field.content)
 
-abbrev pub endsField : Check → Bool
-endsField e = eqb e.form 0
+abbrev pub ends_field : Check → Bool
+ends_field e = eqb e.form 0
 
-abbrev pub endsRecord : Check → Bool
-endsRecord e = eqb e.form 0 && eqb e.begun 0
+abbrev pub ends_record : Check → Bool
+ends_record e = eqb e.form 0 && eqb e.begun 0
 
 -- the held blanks that come out before a byte of content, where m are out already, and whether that byte does: up to the content limit
-abbrev pub blanksLeft : ℕ → Check → ℕ
-blanksLeft m c = min (c.field.held - m) (content_limit - (c.field.content + m))
+abbrev pub blanks_left : ℕ → Check → ℕ
+blanks_left m c = min (c.field.held - m) (content_limit - (c.field.content + m))
 
-abbrev pub byteLeft : Check → Bool
-byteLeft c = leb (c.field.content + c.field.held + 1) content_limit
+abbrev pub byte_left : Check → Bool
+byte_left c = leb (c.field.content + c.field.held + 1) content_limit
 
 -- one entry, or none
 abbrev pub when : Bool → ℕ → List ℕ
 when x n = cond x (n ∷ []) []
 
 -- what the byte b puts out, all of it; and the held blanks among that
-unfoldable pub blanksDue : ℕ → Check → Check → ℕ
-blanksDue m c e = cond (putsText c e) (blanksLeft m c) 0
+unfoldable pub blanks_due : ℕ → Check → Check → ℕ
+blanks_due m c e = cond (puts_text c e) (blanks_left m c) 0
 
 unfoldable pub due : ℕ → Check → ℕ → Check → Out
 due m c b e =
     record {
-      text = replicate (blanksDue m c e) 0x20 ++ when (putsText c e && byteLeft c) b;
-      ends = when (endsField e) e.counts.text;
-      rows = when (endsRecord e) e.counts.fields.0;
+      text = replicate (blanks_due m c e) 0x20 ++ when (puts_text c e && byte_left c) b;
+      ends = when (ends_field e) e.counts.text;
+      rows = when (ends_record e) e.counts.fields.0;
     }
 
 -- room for text, ends and rows
@@ -114,18 +114,18 @@ streamed s (b ∷ f) r =
     cond (is_over s) (idle s)
     (cond (shown e) (showing e)
     (cond (fits o r) (taking o (streamed (onward e) f (left o r)))
-    (stuck s o r (min (blanksDue s.early s.check e) r.text))))
+    (stuck s o r (min (blanks_due s.early s.check e) r.text))))
 
 -- the last end and row end, where a record is open and the check accepts the file: both at once
-unfoldable pub closeDue : Check → Answer → Out
-closeDue c a =
+unfoldable pub close_due : Check → Answer → Out
+close_due c a =
     let x : Bool = eqb a.refusal 0 && not (eqb c.begun 0) in
     record { text = []; ends = when x a.totals.text; rows = when x a.totals.fields.0 }
 
 -- the close: short of room it changes nothing
 unfoldable pub closed : Stream → Room → Called
 closed s r =
-    let o : Out = closeDue s.check (asked s.check) in
+    let o : Out = close_due s.check (asked s.check) in
     cond (is_over s) (idle s)
     (cond (fits o r) (record { taken = 0; out = o; short = 0; state = record { check = s.check; early = s.early; closed = 1 } })
     (record { taken = 0; out = nothing; short = short_of o r; state = s }))
@@ -135,8 +135,8 @@ unfoldable pub answer_of : Stream → Answer
 answer_of s = cond (is_over s) (asked s.check) (refused_by 0 nowhere)
 
 -- 1 from an accepted close on
-unfoldable pub closedBy : Stream → ℕ
-closedBy s = cond (eqb s.closed 0) 0 (cond (eqb (asked s.check).refusal 0) 1 0)
+unfoldable pub closed_by : Stream → ℕ
+closed_by s = cond (eqb s.closed 0) 0 (cond (eqb (asked s.check).refusal 0) 1 0)
 
 -- what is left to a caller with the bytes f: twice the bytes, and the blanks held that are not out
 abbrev pub left_of : Stream → Bytes → ℕ

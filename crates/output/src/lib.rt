@@ -7,7 +7,7 @@
 
 ghost use Rattle.std.specs.Prelude.{◌+◌, ◌-◌, ◌≤◌, min, ◌≡◌, ◌&&◌};
 ghost use Rattle.format.specs.House.{content_limit};
-ghost use Rattle.output.specs.Stream.{onward, shown, is_over, putsText, endsField, endsRecord, byteLeft, blanksDue, answer_of, closedBy};
+ghost use Rattle.output.specs.Stream.{onward, shown, is_over, puts_text, ends_field, ends_record, byte_left, blanks_due, answer_of, closed_by};
 
 use format::Answer;
 use state::Check;
@@ -83,7 +83,7 @@ pub fn is_over(s: Stream) -> bool
 // What a byte puts out, by the check before it and behind it, where so many of the blanks held are out
 // already.
 pub fn due_by(early: u32, c: Check, e: Check) -> Due
-    ensures value { result ≡ record { blanks = blanksDue early c e; byte = putsText c e && byteLeft c; end = endsField e; row = endsRecord e } }
+    ensures value { result ≡ record { blanks = blanks_due early c e; byte = puts_text c e && byte_left c; end = ends_field e; row = ends_record e } }
     ensures blanks_bound { early + result.blanks ≤ 4294967295 }
 {
     let blanks = blanks_due(early, c, e);
@@ -100,7 +100,7 @@ pub fn due_by(early: u32, c: Check, e: Check) -> Due
 
 // The blanks.
 fn blanks_due(early: u32, c: Check, e: Check) -> u32
-    ensures value { result ≡ blanksDue early c e }
+    ensures value { result ≡ blanks_due early c e }
     ensures result_bound { early + result ≤ 4294967295 }
 {
     if e.field.content <= c.field.content {
@@ -122,7 +122,7 @@ fn blanks_left(early: u32, content: u32, held: u32) -> u32
 
 // The byte itself, which the content limit has to leave room for.
 fn byte_due(c: Check, e: Check) -> bool
-    ensures { result ≡ (putsText c e && byteLeft c) }
+    ensures { result ≡ (puts_text c e && byte_left c) }
 {
     if e.field.content <= c.field.content {
         return false;
@@ -132,7 +132,7 @@ fn byte_due(c: Check, e: Check) -> bool
 
 // Whether it ended a record, by the check behind it.
 fn ends_record(e: Check) -> bool
-    ensures { result ≡ endsRecord e }
+    ensures { result ≡ ends_record e }
 {
     if e.form != steps::START {
         return false;
@@ -163,7 +163,7 @@ pub fn told(
     rows: usize,
     short: u32,
 ) -> Streamed
-    ensures { result ≡ record { state = state; taken = taken; text = text; ends = ends; rows = rows; short = short; closed = closedBy state; answer = answer_of state } }
+    ensures { result ≡ record { state = state; taken = taken; text = text; ends = ends; rows = rows; short = short; closed = closed_by state; answer = answer_of state } }
 {
     let closed = closed_by(state);
     let answer = answer_of(state);
@@ -191,7 +191,7 @@ fn answer_of(s: Stream) -> Answer
 
 // 1 from an accepted close on.
 fn closed_by(s: Stream) -> u32
-    ensures { result ≡ closedBy s }
+    ensures { result ≡ closed_by s }
 {
     if s.closed == 0 {
         return 0;

@@ -22,7 +22,7 @@ use Rattle.fill.specs.Fill.{text_by, ends_by, rows_by, text_left, ends_left, row
 use Rattle.fill.proofs.Left.{text-none, text_byte, ends-none, ends-byte, rows_none, rows-byte}
 use Rattle.fill.proofs.Part.{ends-any, rows-any}
 use Rattle.output.specs.Out.{Out, nothing as silence, then}
-use Rattle.output.specs.Stream.{shown, putsText, endsField, byteLeft, due, Room, left, Called, onward, taking, streamed}
+use Rattle.output.specs.Stream.{shown, puts_text, ends_field, byte_left, due, Room, left, Called, onward, taking, streamed}
 use Rattle.taking.specs.Walk.{adding}
 use Rattle.room.specs.Room.{dialect_of, put_out}
 use Rattle.taking.proofs.Growing.{adds_none}
@@ -67,7 +67,7 @@ module _ (c : Check) (b : ℕ) (g : Bytes) (n : ℕ) (few : Small c (suc n)) whe
   not-refused : {A : Type 0} {r : ℕ} (m : ℕ) → eqb m 0 ≡ false → r ≡ m → r ≡ 0 → A
   not-refused m p q z = absurd (eqb-false m 0 p (sym q ∙ z))
 
-  no-put : (e : Check) → e.field.content ≤ c.field.content → putsText c e ≡ false
+  no-put : (e : Check) → e.field.content ≤ c.field.content → puts_text c e ≡ false
   no-put e l = ap not (le-leb e.field.content c.field.content l)
 
   -- nothing comes out
@@ -78,8 +78,8 @@ module _ (c : Check) (b : ℕ) (g : Bytes) (n : ℕ) (few : Small c (suc n)) whe
         rows = rows_left false (dialect_of c) g j c.counts.fields.0 true;
       }) e
   quiet j h e k v p l =
-      let y : putsText c e ≡ false = no-put e (rw v.content (omega arith)) in
-      let z : endsField e ≡ false = rw v.form p in
+      let y : puts_text c e ≡ false = no-put e (rw v.content (omega arith)) in
+      let z : ends_field e ≡ false = rw v.form p in
       let s₁ = few.text in
       let s₂ = few.fields in
       record {
@@ -100,11 +100,11 @@ module _ (c : Check) (b : ℕ) (g : Bytes) (n : ℕ) (few : Small c (suc n)) whe
       let s₂ = few.fields in
       let i : plus (plus c.field.content c.field.held) 1 ≡ c.field.content + c.field.held + 1 = omega arith in
       let q : e.field.content ≡ c.field.content + c.field.held + 1 = v.content ∙ i in
-      let y : putsText c e ≡ true = ap not (lt-leb e.field.content c.field.content (omega arith)) in
-      let x : endsField e ≡ false = rw v.form p in
+      let y : puts_text c e ≡ true = ap not (lt-leb e.field.content c.field.content (omega arith)) in
+      let x : ends_field e ≡ false = rw v.form p in
       let n₀ : c.field.content + c.field.held + 1 ≤ content_limit = rw q at l in
       let w = blanks-all c.field.held c.field.content content_limit n₀ in
-      let u : byteLeft c ≡ true = le-leb (c.field.content + c.field.held + 1) content_limit n₀ in
+      let u : byte_left c ≡ true = le-leb (c.field.content + c.field.held + 1) content_limit n₀ in
       let m : c.counts.text + c.field.content + c.field.held + 1 ≡ c.counts.text + (c.field.content + c.field.held + 1) = omega arith in
       let o : due 0 c b e ≡ record { text = replicate c.field.held 0x20 ++ (b ∷ []); ends = []; rows = [] } = rw (due-text 0 c b e y x, w, u) in
       let t = text_left (dialect_of c) g j 0 in
@@ -121,8 +121,8 @@ module _ (c : Check) (b : ℕ) (g : Bytes) (n : ℕ) (few : Small c (suc n)) whe
       let s₁ = few.text in
       let s₂ = few.fields in
       let o = v.over in
-      let y : putsText c e ≡ false = no-put e (rw o.content (omega arith)) in
-      let x : endsField e ≡ true = rw o.form in
+      let y : puts_text c e ≡ false = no-put e (rw o.content (omega arith)) in
+      let x : ends_field e ≡ true = rw o.form in
       let u : eqb e.begun 0 ≡ false = rw o.begun in
       let t : e.counts.text ≡ c.counts.text + c.field.content = o.text ∙ omega arith in
       let f : e.counts.fields.0 ≡ c.counts.fields.0 + 1 = o.fields ∙ omega arith in
@@ -137,8 +137,8 @@ module _ (c : Check) (b : ℕ) (g : Bytes) (n : ℕ) (few : Small c (suc n)) whe
       let s₁ = few.text in
       let s₂ = few.fields in
       let o = v.over in
-      let y : putsText c e ≡ false = no-put e (rw o.content (omega arith)) in
-      let x : endsField e ≡ true = rw o.form in
+      let y : puts_text c e ≡ false = no-put e (rw o.content (omega arith)) in
+      let x : ends_field e ≡ true = rw o.form in
       let u : eqb e.begun 0 ≡ true = rw o.begun in
       let t : e.counts.text ≡ c.counts.text + c.field.content = o.text ∙ omega arith in
       let f : e.counts.fields.0 ≡ c.counts.fields.0 + 1 = o.fields ∙ omega arith in
@@ -264,15 +264,15 @@ module _ (c : Check) (b : ℕ) (z : c.refusal ≡ 0) (z' : (fed c b).refusal ≡
 
   -- inside the field, whether or not the byte is content
   stays : (j : Form) (m h : ℕ) → content_limit < m → Within c (form_number j) m h (fed c b) → eqb (form_number j) (form_number start) ≡ false → Beyond
-  stays j m h i v p = record { out = by (putsText c (fed c b)) refl; more = rw v.content i }
+  stays j m h i v p = record { out = by (puts_text c (fed c b)) refl; more = rw v.content i }
     where
-      x : endsField (fed c b) ≡ false
+      x : ends_field (fed c b) ≡ false
       x = rw v.form p
 
-      by : (y : Bool) → putsText c (fed c b) ≡ y → due 0 c b (fed c b) ≡ silence
+      by : (y : Bool) → puts_text c (fed c b) ≡ y → due 0 c b (fed c b) ≡ silence
       by true q =
           let w : min (c.field.held - 0) (content_limit - (c.field.content + 0)) ≡ 0 = none_left c.field.held c.field.content content_limit l in
-          let u : byteLeft c ≡ false = lt-leb (c.field.content + c.field.held + 1) content_limit (omega arith) in
+          let u : byte_left c ≡ false = lt-leb (c.field.content + c.field.held + 1) content_limit (omega arith) in
           due-text 0 c b (fed c b) q x ∙ rw (w, u)
       by false q = due-quiet 0 c b (fed c b) q x
 

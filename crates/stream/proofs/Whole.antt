@@ -9,8 +9,8 @@ use Rattle.format.specs.Table.{Bytes}
 use Rattle.format.specs.Filling.{over}
 use Rattle.format.proofs.Filling.{begin}
 use Rattle.output.specs.declared.Stream.{Stream}
-use Rattle.output.specs.Stream.{Called, streamed, closedBy, answer_of}
-use Rattle.output.specs.Promises.{Into, roomOf}
+use Rattle.output.specs.Stream.{Called, streamed, closed_by, answer_of}
+use Rattle.output.specs.Promises.{Into, room_of}
 use Rattle.output.specs.declared.Streamed.{Streamed}
 use Rattle.output.proofs.Step.{then-nothing}
 use Rattle.taking.specs.declared.Flow.{Flow}
@@ -28,7 +28,7 @@ module _ {piece text : Bytes} {ends rows : List ℕ} {s : Stream} {q : Flow} {te
   -- it took what it has come over, and put out what it has written
   whole_is :
       (g : Grew piece (begun s) text ends rows q text' ends' rows' (stop_at q))
-      → streamed s piece (roomOf text ends rows) ≡ record { taken = q.taken; out = g.new; short = q.short; state = q.state }
+      → streamed s piece (room_of text ends rows) ≡ record { taken = q.taken; out = g.new; short = q.short; state = q.state }
   whole_is g =
       let x : length text ≡ length text - 0 = omega arith in
       let y : length ends ≡ length ends - 0 = omega arith in
@@ -39,8 +39,8 @@ module _ {piece text : Bytes} {ends rows : List ℕ} {s : Stream} {q : Flow} {te
 
   pub grew-into :
       Grew piece (begun s) text ends rows q text' ends' rows' (stop_at q) → {r : Streamed}
-      → r ≡ record { state = q.state; taken = q.taken; text = q.text; ends = q.ends; rows = q.rows; short = q.short; closed = closedBy q.state; answer = answer_of q.state }
-      → Into (streamed s piece (roomOf text ends rows)) text ends rows r text' ends' rows'
+      → r ≡ record { state = q.state; taken = q.taken; text = q.text; ends = q.ends; rows = q.rows; short = q.short; closed = closed_by q.state; answer = answer_of q.state }
+      → Into (streamed s piece (room_of text ends rows)) text ends rows r text' ends' rows'
   grew-into g {r} e =
       let t = filled g.text_on in
       let u = filled g.ends_on in

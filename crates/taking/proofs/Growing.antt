@@ -15,7 +15,7 @@ use Rattle.format.proofs.Tests.{and_both}
 use Rattle.state.specs.declared.Check.{Check}
 use Rattle.state.specs.Check.{fed}
 use Rattle.output.specs.Out.{Out, nothing, then}
-use Rattle.output.specs.Stream.{shown, is_over, putsText, endsField, endsRecord, byteLeft, when, blanksDue, due, Room, fits, left, short_of, Called, idle, onward, taking, streamed}
+use Rattle.output.specs.Stream.{shown, is_over, puts_text, ends_field, ends_record, byte_left, when, blanks_due, due, Room, fits, left, short_of, Called, idle, onward, taking, streamed}
 use Rattle.output.proofs.Calls.{then-then}
 use Rattle.output.specs.declared.Due.{Due}
 use Rattle.output.proofs.Bytewise.{due-is, short-is, short-fits, short-not, fits-parts, streamed-none, streamed-over, streamed-shown, streamed-taken, streamed-stuck}
@@ -106,7 +106,7 @@ when-length : (x : Bool) (n : ℕ) → length (when x n) ≡ one x
 when-length true n = refl
 when-length false n = refl
 
-module _ (m : ℕ) (c : Check) (b : ℕ) (e : Check) {d : Due} (q : d ≡ record { blanks = blanksDue m c e; byte = putsText c e && byteLeft c; end = endsField e; row = endsRecord e }) where
+module _ (m : ℕ) (c : Check) (b : ℕ) (e : Check) {d : Due} (q : d ≡ record { blanks = blanks_due m c e; byte = puts_text c e && byte_left c; end = ends_field e; row = ends_record e }) where
   due-text : (due m c b e).text ≡ replicate d.blanks 0x20 ++ when d.byte b
   due-text = rw q (ap (λ (o : Out). o.text) (due-is m c b e))
 
@@ -127,7 +127,7 @@ module _ (m : ℕ) (c : Check) (b : ℕ) (e : Check) {d : Due} (q : d ≡ record
   rows-length : length (due m c b e).rows ≡ one d.row
   rows-length = ap length due-rows ∙ when-length d.row e.counts.fields.0
 
-  blanks-are : d.blanks ≡ blanksDue m c e
+  blanks-are : d.blanks ≡ blanks_due m c e
   blanks-are = ap (λ (x : Due). x.blanks) q
 
   short-is-of :
@@ -259,7 +259,7 @@ module _ {piece text : Bytes} {ends rows : List ℕ} {p : Flow} (w : Inside p pi
 
       -- whose output does not
       abbrev blanks : ℕ
-      blanks = min (blanksDue p.state.early c (fed c b)) (length text - p.text)
+      blanks = min (blanks_due p.state.early c (fed c b)) (length text - p.text)
 
       stuck-took :
           fits o (room_at p text ends rows) ≡ false → {q : Flow} {text' : List ℕ}
@@ -295,7 +295,7 @@ module _ {piece text : Bytes} {ends rows : List ℕ} {p : Flow} (w : Inside p pi
 
       -- by what the code has computed of it, and of the buffer that is short
       abbrev due_by : Check → Due
-      due_by e = record { blanks = blanksDue p.state.early c e; byte = putsText c e && byteLeft c; end = endsField e; row = endsRecord e }
+      due_by e = record { blanks = blanks_due p.state.early c e; byte = puts_text c e && byte_left c; end = ends_field e; row = ends_record e }
 
       abbrev short_by : Due → ℕ
       short_by d =

@@ -1,0 +1,7 @@
+-- `pieces::shut` meets its contract.
+use borrow.Author.Rules.{rules}
+use Rattle.state.proofs.Parts.{entered-is}
+use Rattle.pieces.proofs.shut.Goals as goal
+
+pub returns : goal.returns
+returns c = rw (c.along-next.ensures, entered-is)
