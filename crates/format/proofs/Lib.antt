@@ -20,6 +20,7 @@ pub mod Rfc
 pub mod Tally
 pub mod Tests
 pub mod Trim
+pub mod Walk
 pub mod Room
 pub mod Refusals
 pub mod Refused

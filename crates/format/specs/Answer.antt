@@ -4,6 +4,8 @@ use mathlib.Core.List.{List, [], ◌∷◌, flatten}
 use Rattle.format.specs.declared.Place.{Place}
 use Rattle.format.specs.declared.Totals.{Totals}
 use Rattle.format.specs.declared.Answer.{Answer}
+use Rattle.format.specs.declared.Indexed.{Indexed}
+use Rattle.format.specs.declared.Jumped.{Jumped}
 use Rattle.format.specs.declared.Written.{Written, TheVariants.Whole, TheVariants.UnknownMode, TheVariants.Malformed, TheVariants.Forbidden, TheVariants.LongContent, TheVariants.Uneven, TheVariants.LongFile, TheVariants.NoRoom}
 use Rattle.format.specs.declared.Found.{Found, TheVariants.At, TheVariants.Malformed as Unfit, TheVariants.Twice, TheVariants.Missing}
 use Rattle.format.specs.declared.Part.{Part, TheVariants.Lies, TheVariants.Absent}
@@ -48,3 +50,17 @@ search_numbers Missing = 17 ∷ 0 ∷ 0 ∷ 0 ∷ []
 abbrev pub part_numbers : Part → List ℕ
 part_numbers (Lies start n) = 1 ∷ start.0 ∷ n ∷ []
 part_numbers Absent = 0 ∷ 0 ∷ 0 ∷ []
+
+-- The answer to an index has: refusal, line, column, byte, entries. Accepted, the first four are 0; refused, the last is.
+abbrev pub indexed_by : ℕ → Indexed
+indexed_by n = record { refusal = 0; place = nowhere; entries = n }
+
+abbrev pub unindexed : ℕ → Place → Indexed
+unindexed n p = record { refusal = n; place = p; entries = 0 }
+
+-- Where a record lies: refusal, line, column, byte, start, length. Accepted, the first four are 0; refused, all but the first.
+abbrev pub lies_at : ℕ → ℕ → Jumped
+lies_at start n = record { refusal = 0; place = nowhere; start = record { 0 = start }; length = n }
+
+abbrev pub lies_nowhere : ℕ → Jumped
+lies_nowhere n = record { refusal = n; place = nowhere; start = record { 0 = 0 }; length = 0 }

@@ -11,4 +11,5 @@ pub mod Refusal
 pub mod Rfc4180
 pub mod SoFar
 pub mod Table
+pub mod Walk
 pub mod WrittenForms

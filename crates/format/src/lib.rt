@@ -18,6 +18,9 @@ pub const RAGGED_BIT: u32 = 4;
 
 pub const BYTES_BIT: u32 = 8;
 
+// An index has an entry for each so many records.
+pub const INDEX_STEP: usize = 64;
+
 // The largest number of 32 bits, which is the most that ends and rows can count to.
 pub const LARGEST_32: usize = 4294967295;
 
@@ -104,4 +107,25 @@ pub enum Found {
 pub enum Part {
     Lies(TextIndex, u32),
     Absent,
+}
+
+// The answer to an index: refusal 0 and how many entries the file has; or the refusal's number and the
+// place that it names. The rest of either is 0.
+#[repr(C)]
+#[derive(Clone, Copy)]
+pub struct Indexed {
+    pub refusal: u32,
+    pub place: Place,
+    pub entries: u32,
+}
+
+// Where a record lies in a file: refusal 0, its start and its length; or the refusal's number and the
+// empty part at the file's beginning. No place is named.
+#[repr(C)]
+#[derive(Clone, Copy)]
+pub struct Jumped {
+    pub refusal: u32,
+    pub place: Place,
+    pub start: ByteOffset,
+    pub length: u32,
 }

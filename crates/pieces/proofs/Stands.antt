@@ -9,11 +9,13 @@ use lib.ListN.{length}
 use borrow.Author.Tests.{eq-eqb, leb-true, leb-false, le-leb, lt-leb}
 use Rattle.format.specs.declared.Answer.{Answer}
 use Rattle.format.specs.Answer.{accepted_as, refused_by}
-use Rattle.format.specs.Table.{Bytes}
+use Rattle.format.specs.Table.{Bytes, Table}
 use Rattle.format.specs.Dialect.{dialect}
 use Rattle.format.specs.House.{file_limit}
 use Rattle.format.specs.Count.{wides, some}
 use Rattle.format.specs.Place.{nowhere}
+use Rattle.format.specs.Reading.{Accepted}
+use Rattle.format.proofs.Numbers.{refused-number}
 use Rattle.steps.specs.Model.{any, read, Verdict, accepts, refuses, verdict, is_valid, model}
 use Rattle.steps.proofs.Theorems.{one-accepted, one-refused, never_both}
 use Rattle.steps.proofs.Verdicts.{model-invalid, model-long, model-within, Holds, model-holds}
@@ -112,3 +114,11 @@ so-fed {c} {piece} q =
 
 pub so-asked : {c : Check} {a : Answer} → a ≡ asked c → Asked c a
 so-asked {c} q = record { result = q; answers = λ b sum f h. subst (Answers b sum f) (sym q) (stands-answers b sum f c h) }
+
+-- what the check accepts, with its answer
+pub data Takes (b sum : ℕ) (f : Bytes) : Answer → Type 0 where
+  takes : {t : Table} {r : ℕ} → Accepted b sum f t r → Takes b sum f (accepted_as t r)
+
+pub accepts-it : {b sum : ℕ} {f : Bytes} {a : Answer} → Answers b sum f a → a.refusal ≡ 0 → Takes b sum f a
+accepts-it (accepted h) e = takes h
+accepts-it (refused h) e = absurd (omega (arith, refused-number h))

@@ -13,7 +13,7 @@ ghost use Rattle.steps.specs.Numbers.{form_number};
 ghost use Rattle.places.specs.Counters.{along};
 ghost use Rattle.state.specs.Check.{entered, placed, fed, jumped};
 ghost use Rattle.pieces.specs.Asked.{bit_if, totalled, settled_answer};
-ghost use Rattle.pieces.specs.Answers.{Started, Fed, Asked};
+ghost use Rattle.pieces.specs.Answers.{Answers, Started, Fed, Asked};
 
 use format::{Answer, ByteOffset, Column, FieldNumber, Line, Place, Totals};
 use state::{Check, Counts, Current, Used};
@@ -115,6 +115,13 @@ pub fn ask(check: Check) -> Answer
     let used = check.used;
     let here = check.here;
     settled(check.record_ended(used, here, here, false))
+}
+
+// The answer for a whole file at once.
+pub fn checked(file: &[u8], delimiter: u8, leniencies: u8) -> Answer
+    ensures { Answers delimiter leniencies file.now result }
+{
+    ask(feed(start(delimiter, leniencies), file))
 }
 
 // The answer of a refusal, with the place that it names: of the totals nothing is said.

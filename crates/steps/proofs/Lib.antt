@@ -12,4 +12,5 @@ pub mod Sound
 pub mod Tallies
 pub mod Theorems
 pub mod Verdicts
+pub mod Walks
 pub mod Widths

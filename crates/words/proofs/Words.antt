@@ -4,10 +4,10 @@ use native.Mathlib.Nat.{pow-suc, lt_of_lt_of_le, zero-div, mul_assoc}
 use native.Mathlib.Numerals.{add-one, one-add}
 use native.Mathlib.Omega.{arith}
 use mathlib.Core.Path.{◌≡◌, refl, ◌∙◌, ap, ap₂, sym}
-use mathlib.Core.Bool.{Bool, true, false, cond, not}
+use mathlib.Core.Bool.{Bool, true, false, cond, not, ◌||◌, or-true, or-false}
 use mathlib.Core.List.{List, [], ◌∷◌, ◌++◌}
 use lib.Count.{count_trailing_zeros, under}
-use lib.ListN.{length, take, drop, get_or, set, length-drop, length-take, length-set, drop_of_length-le}
+use lib.ListN.{length, take, drop, get_or, set, length-drop, length-take, length-set, drop_of_length-le, get_or-eq_default}
 use lib.Pow.{pow_mono, shr-shr}
 use lib.Seq.{drop-cons, get_or-take, get_or-drop, length-take-le, take-add, take_all, take-nil, drop-drop, ext_get_or, get_or-set_same, get_or-set_other}
 use lib.Dec.{leb, eqb}
@@ -161,6 +161,14 @@ unmarked-has t p h b l e = go (p b) (ap not (sym (h b l)) ∙ e)
     go true q = refl
     go false q = q
 
+-- whatever the table, it marks each byte that it does not leave unmarked
+pub marks-own : (t : List Bool) → Marks t (unmarked t)
+marks-own t b l = twice (get_or t b false)
+  where
+    twice : (x : Bool) → x ≡ not (not x)
+    twice true = refl
+    twice false = refl
+
 -- a table that is marked but for the entries from i to before e: one entry more, and all
 abbrev pub MarkedBut : (ℕ → Bool) → ℕ → ℕ → List Bool → Type 0
 MarkedBut p i e t = (i ≤ e) × (length t ≡ 256) × ((b : ℕ) → b < 256 → (i ≤ b → b < e → ⊥) → get_or t b false ≡ not (p b))
@@ -174,6 +182,18 @@ marked_more p i e t v h l q = (omega arith, length-set t i v ∙ h.1, λ b k u. 
 
 pub marked_all : (p : ℕ → Bool) (i e : ℕ) (t : List Bool) → MarkedBut p i e t → e ≤ i → Marks t p
 marked_all p i e t h l b k = h.2 b k (λ x y. omega arith)
+
+-- one entry set otherwise: the mark of one byte more with the property
+pub marked-set : (p : ℕ → Bool) (i : ℕ) (t : List Bool) → Marks t p → Marks (set t i false) (λ b. p b || eqb b i)
+marked-set p i t h b k = go (eqb b i) refl
+  where
+    unset : (x : Bool) → leb (length t) i ≡ x → get_or (set t i false) i false ≡ false
+    unset true e = get_or-eq_default (set t i false) false (rw (length-set t i false) (leb-true (length t) i e))
+    unset false e = get_or-set_same t i false false (leb-false (length t) i e)
+
+    go : (x : Bool) → eqb b i ≡ x → get_or (set t i false) b false ≡ not (p b || x)
+    go true w = rw (eqb-true b i w, or-true) (unset (leb (length t) i) refl)
+    go false w = rw or-false (get_or-set_other t i b false false (eqb-false b i w) ∙ h b k)
 
 -- the marks of a property are one table
 pub one_table : (t u : List Bool) (p : ℕ → Bool) → Marks t p → Marks u p → length t ≡ 256 → length u ≡ 256 → t ≡ u

@@ -1,5 +1,5 @@
 -- The word of a list of bytes by a table of marks: the lowest bit is the first byte's.
-use Rattle.std.specs.Prelude.{ℕ, ◌+◌, ◌-◌, ◌*◌, ◌<◌, min, ◌≡◌, Bool, false, cond, not, List, [], ◌∷◌, get_or}
+use Rattle.std.specs.Prelude.{ℕ, ◌+◌, ◌-◌, ◌*◌, ◌<◌, min, ◌≡◌, Bool, false, cond, not, ◌||◌, List, [], ◌∷◌, eqb, get_or}
 use Rattle.format.specs.Table.{Bytes}
 use Rattle.format.specs.Dialect.{Dialect}
 use Rattle.runs.specs.Runs.{is_plain}
@@ -21,3 +21,7 @@ Marks t p = (b : ℕ) → b < 256 → get_or t b false ≡ not (p b)
 
 abbrev pub Stops : List Bool → Dialect → Type 0
 Stops t d = Marks t (is_plain d)
+
+-- bytes of rows of bare fields: plain text, and the delimiter
+abbrev pub is_row : Dialect → ℕ → Bool
+is_row d b = is_plain d b || eqb b d.delimiter_byte

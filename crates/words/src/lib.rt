@@ -8,7 +8,7 @@
 ghost use Rattle.std.specs.Prelude.{◌≡◌, ◌+◌, ◌-◌, ◌/◌, ◌^◌, ◌<◌, ◌≤◌, length, take, drop};
 ghost use Rattle.format.specs.Dialect.{dialect};
 ghost use Rattle.runs.specs.Runs.{is_inner};
-ghost use Rattle.words.specs.Words.{bit, word, block_end, Marks, Stops};
+ghost use Rattle.words.specs.Words.{bit, word, block_end, Marks, Stops, is_row};
 
 // The word of 4 bytes by a table of marks, the first byte lowest: a short chain, of which a processor runs
 // many beside each other.
@@ -140,6 +140,15 @@ pub fn stop_table(delimiter: u8, leniencies: u8) -> [bool; 256]
         t[i] = !runs::is_plain(delimiter, leniencies, i as u8);
         i += 1;
     }
+    t
+}
+
+// The table that marks what is neither plain text nor the delimiter.
+pub fn row_table(delimiter: u8, leniencies: u8) -> [bool; 256]
+    ensures { Marks result (is_row (dialect delimiter leniencies)) }
+{
+    let mut t = stop_table(delimiter, leniencies);
+    t[delimiter as usize] = false;
     t
 }
 
