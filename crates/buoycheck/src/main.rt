@@ -30,24 +30,24 @@ fn complain(rt: &impl Eprint) -> io::Result<()> {
 }
 
 fn print(rt: &impl Print, answer: Answer) -> io::Result<()> {
-    print_line(rt, "refusal=", answer.refusal)?;
+    print_line(rt, "refusal=", answer.refusal as u64)?;
     print_place(rt, answer.place)?;
     print_totals(rt, answer.totals)
 }
 
 fn print_place(rt: &impl Print, place: Place) -> io::Result<()> {
-    print_line(rt, "line=", place.line.0)?;
-    print_line(rt, "column=", place.column.0)?;
-    print_line(rt, "byte=", place.byte.0)
+    print_line(rt, "line=", place.line.0 as u64)?;
+    print_line(rt, "column=", place.column.0 as u64)?;
+    print_line(rt, "byte=", place.byte.0 as u64)
 }
 
 fn print_totals(rt: &impl Print, totals: Totals) -> io::Result<()> {
-    print_line(rt, "records=", totals.records)?;
-    print_line(rt, "fields=", totals.fields.0)?;
-    print_line(rt, "text=", totals.text)?;
-    print_line(rt, "report=", totals.report)
+    print_line(rt, "records=", totals.records as u64)?;
+    print_line(rt, "fields=", totals.fields.0 as u64)?;
+    print_line(rt, "text=", totals.text as u64)?;
+    print_line(rt, "report=", totals.report as u64)
 }
 
-fn print_line(rt: &impl Print, name: &str, n: u32) -> io::Result<()> {
+fn print_line(rt: &impl Print, name: &str, n: u64) -> io::Result<()> {
     println!(rt; "{name}{n}")
 }

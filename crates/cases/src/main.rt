@@ -191,7 +191,7 @@ fn print_written(rt: &impl Print, out: &[u8], answer: Written) -> io::Result<()>
     }
 }
 
-fn refused(rt: &impl Print, n: u32) -> io::Result<()> {
+fn refused(rt: &impl Print, n: u64) -> io::Result<()> {
     println!(rt; "{n}")
 }
 

@@ -11,7 +11,7 @@ use Rattle.format.specs.declared.Place.{Place}
 use Rattle.format.specs.Table.{Bytes, Table}
 use Rattle.format.specs.Dialect.{dialect, delimits, Valid}
 use Rattle.format.specs.House.{file_limit}
-use Rattle.format.specs.Place.{place, place_of, nowhere}
+use Rattle.format.specs.Place.{place_of, nowhere}
 use Rattle.format.specs.Refusal.{Refusal}
 use Rattle.format.specs.Reading.{Reading, Accepted, Refused, refusal_1, refusal_2, in_file}
 use Rattle.format.proofs.Places.{PlaceWithin, place-within}

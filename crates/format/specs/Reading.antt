@@ -7,7 +7,7 @@ use Rattle.format.specs.Rfc4180
 use Rattle.format.specs.Grammar.{File}
 use Rattle.format.specs.House.{LastBreak, EmptyFile, file_limit, Allowed}
 use Rattle.format.specs.Count.{report_of}
-use Rattle.format.specs.Place.{place, place_of, nowhere}
+use Rattle.format.specs.Place.{place_of, nowhere}
 use Rattle.format.specs.Refusal.{Refusal}
 
 -- `Reading d f t r`: in the dialect d the file f holds the table t, and r reports the leniencies used. The file limit is set aside, as demand 3 does.

@@ -12,7 +12,7 @@ use Rattle.format.specs.Table.{Bytes}
 use Rattle.format.specs.Dialect.{only_wide, ragged, names, Dialect, dialect}
 use Rattle.format.specs.House.{content_limit, file_limit}
 use Rattle.format.specs.Count.{some}
-use Rattle.format.specs.Place.{place, place_of, nowhere}
+use Rattle.format.specs.Place.{place_of, nowhere}
 use Rattle.format.proofs.Places.{place-first}
 use Rattle.steps.specs.Steps.{Form, start, lead, bare, quoted, shut, tail, cr, Out, nothing, put, hold, drop, field_end, record_end, Act, refuse, go, is_in_quotes, is_behind_cr}
 use Rattle.steps.specs.Model.{anchor, seen, agrees}

@@ -279,12 +279,12 @@ width-set (suc z) j = (z, rw (eqb-suc-zero z))
 line-above :
     (z j n : ℕ) (t : Table) (v : Bool) (y : ℕ) → cond (eqb z 0) (suc j) z ≡ suc y
     → let w = cond (eqb z 0) (suc j) z in
-      let u = cond (eqb z 0) (j + 1) z in
-      (not (even w n) || differs (cond (eqb w 0) n w) t || (not (even z (suc j)) || v)) ≡ (not (even z (j + 1)) || (not (eqb n u) || differs u t) || v)
+    let u = cond (eqb z 0) (j + 1) z in
+    (not (even w n) || differs (cond (eqb w 0) n w) t || (not (even z (suc j)) || v)) ≡ (not (even z (j + 1)) || (not (eqb n u) || differs u t) || v)
 line-above z j n t v y e =
     let P : ℕ → Type 0 =
-      λ k. (not (even (suc y) n) || differs (cond (eqb (suc y) 0) n (suc y)) t || (not (even z (suc j)) || v))
-      ≡ (not (even z k) || (not (eqb n (cond (eqb z 0) k z)) || differs (cond (eqb z 0) k z) t) || v) in
+    λ k. (not (even (suc y) n) || differs (cond (eqb (suc y) 0) n (suc y)) t || (not (even z (suc j)) || v))
+    ≡ (not (even z k) || (not (eqb n (cond (eqb z 0) k z)) || differs (cond (eqb z 0) k z) t) || v) in
     let q : P (suc j) = rw (e, eqb-suc-zero y) (ragged-line (even z (suc j)) (eqb n (suc y)) (differs (suc y) t) v) in
     rw e (subst P (sym (add-one j)) q)
 

@@ -11,7 +11,7 @@ use Rattle.format.specs.Table.{Bytes, Table}
 use Rattle.format.specs.Dialect.{lf, blanks, ragged, bytes, bit_of, Dialect, dialect, delimits, Valid}
 use Rattle.format.specs.House.{EmptyFile, is_ragged, file_limit}
 use Rattle.format.specs.Count.{wides, some, uses, sum_of}
-use Rattle.format.specs.Place.{place, place_of, nowhere}
+use Rattle.format.specs.Place.{place_of, nowhere}
 use Rattle.format.specs.Refusal.{Refusal}
 use Rattle.format.specs.Reading.{Reading, Accepted, Refused, refusal_1, refusal_2, in_file}
 use Rattle.steps.specs.Model.{Judged, declined, taken, any, read, used, Verdict, accepts, refuses, verdict, is_valid, model}

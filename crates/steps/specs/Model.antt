@@ -6,7 +6,7 @@ use Rattle.format.specs.declared.Place.{Place}
 use Rattle.format.specs.Dialect.{Leniency, lf, blanks, ragged, bytes, Dialect, dialect, delimits, class_of}
 use Rattle.format.specs.House.{is_ragged, content_limit, file_limit}
 use Rattle.format.specs.Count.{wides, some, sum_of}
-use Rattle.format.specs.Place.{place, place_of, nowhere}
+use Rattle.format.specs.Place.{place_of, nowhere}
 use Rattle.steps.specs.Steps.{Form, start, lead, bare, quoted, shut, tail, cr, nothing, put, hold, drop, field_end, record_end, Act, refuse, go, is_in_quotes, is_behind_cr, step_of}
 
 -- the rest of a field's content, and how many blanks are dropped from there on

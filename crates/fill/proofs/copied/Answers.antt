@@ -3,7 +3,6 @@ use mathlib.Core.Path.{refl, sym, ◌∙◌}
 use borrow.Author.Tests.{leb-true}
 use Rattle.format.proofs.Tests.{and_both}
 use Rattle.fill.proofs.copied.Goals as goal
-use Rattle.fill.proofs.copied.Goals.{Else-not-copy_fits}
 
 pub returns-then-not-copy_fits : goal.returns-then-not-copy_fits
 returns-then-not-copy_fits c = rw (sym c.copy_fits.ensures ∙ c.if-not-copy_fits.true) (record { value = refl; text_after = refl })

@@ -1,7 +1,7 @@
 -- `output::is_shown` meets its contract.
 use mathlib.Core.Path.{◌≡◌}
 use mathlib.Core.Bool.{true}
-use borrow.Author.Tests.{le-leb, lt-leb, not-true, not-false}
+use borrow.Author.Tests.{le-leb, lt-leb}
 use Rattle.steps.specs.Model.{is_valid}
 use Rattle.output.specs.Stream.{shown}
 use Rattle.output.proofs.is_shown.Goals as goal

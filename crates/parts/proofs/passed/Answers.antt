@@ -2,11 +2,10 @@
 use Prim.Native.Nat.{◌+◌}
 use native.Mathlib.Omega.{arith}
 use Rattle.format.proofs.Tests.{on-true}
-use Rattle.taking.proofs.Growing.{inside-by, put-size}
-use Rattle.room.specs.Room.{Ample, Passable}
+use Rattle.taking.proofs.Growing.{inside-by}
+use Rattle.room.specs.Room.{Passable}
 use Rattle.room.proofs.Counted.{passable}
 use Rattle.parts.proofs.Passing.{stayed, beyond-grew, part-grew, ample-to}
-use borrow.Author.Rules.{rules}
 use Rattle.parts.proofs.passed.Goals as goal
 
 pub returns-then-n-lt-LEAST : goal.returns-then-n-lt-LEAST

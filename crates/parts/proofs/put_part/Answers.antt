@@ -1,9 +1,7 @@
 -- `parts::put_part` meets its contract.
 use native.Mathlib.Omega.{arith}
 use mathlib.Core.Bool.{false}
-use Rattle.taking.proofs.Growing.{put-size}
 use Rattle.parts.proofs.Passing.{enough, text-put, ends-raisable, rows-raisable, ends-raised, rows-raised}
-use borrow.Author.Rules.{rules}
 use Rattle.parts.proofs.put_part.Goals as goal
 
 pub overflow_add-p : goal.overflow_add-p

@@ -1,7 +1,7 @@
 -- `parts::raise` meets its contract. The loop's invariant: with the rest made greater the entries become what they are to become.
 use Prim.Native.Nat.{◌-◌}
 use native.Mathlib.Omega.{arith}
-use Rattle.parts.proofs.Raised.{Raising, raise-first, raise-small, raise-next, raise-last, raise-size}
+use Rattle.parts.proofs.Raised.{raise-first, raise-small, raise-next, raise-last, raise-size}
 use Rattle.parts.proofs.raise.Goals as goal
 
 pub loop-i-init : goal.loop-i-init

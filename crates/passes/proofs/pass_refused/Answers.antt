@@ -1,7 +1,5 @@
 -- `passes::pass_refused` meets its contract.
-use borrow.Author.Tests.{not-false}
 use Rattle.passes.proofs.Passing.{refused-leads}
-use borrow.Author.Rules.{rules}
 use Rattle.passes.proofs.pass_refused.Goals as goal
 
 pub returns : goal.returns

@@ -1,7 +1,6 @@
 -- `passes::pass_text` meets its contract.
 use native.Mathlib.Omega.{arith}
 use Rattle.passes.proofs.Passing.{text-within, text-leads}
-use borrow.Author.Rules.{rules}
 use Rattle.passes.proofs.pass_text.Goals as goal
 
 pub overflow_add-result : goal.overflow_add-result

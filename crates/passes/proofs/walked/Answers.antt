@@ -1,6 +1,5 @@
 -- `passes::walked` meets its contract.
 use Rattle.spans.proofs.Passing.{walked-is}
-use borrow.Author.Rules.{rules}
 use Rattle.passes.proofs.walked.Goals as goal
 
 pub returns : goal.returns

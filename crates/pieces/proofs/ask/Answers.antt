@@ -1,7 +1,7 @@
 -- `pieces::ask` meets its contract: the tests on the way are those of the definition, in its order.
 use mathlib.Core.Path.{◌≡◌}
 use mathlib.Core.Bool.{true, cond}
-use borrow.Author.Tests.{eq-eqb, ne_eqb, le-leb, lt-leb, not-true, not-false}
+use borrow.Author.Tests.{eq-eqb, ne_eqb, le-leb, lt-leb}
 use Prim.Native.Nat.{◌≤◌}
 use Rattle.steps.specs.Model.{is_valid}
 use Rattle.format.specs.House.{file_limit}

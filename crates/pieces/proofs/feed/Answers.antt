@@ -1,7 +1,6 @@
 -- `pieces::feed` meets its contract. The loop's invariant: what is left of the piece leads to the state that the whole piece leads to.
-use Prim.Native.Nat.{ℕ, ◌+◌, ◌-◌, ◌≤◌, ◌<◌}
+use Prim.Native.Nat.{ℕ, ◌+◌, ◌-◌, ◌<◌}
 use mathlib.Core.Path.{◌≡◌, refl, ◌∙◌, ap, sym}
-use mathlib.Core.Logic.{⊎_elim}
 use mathlib.Core.List.{List}
 use native.Mathlib.Omega.{arith}
 use lib.ListN.{length, take, drop, get_or}
@@ -30,6 +29,7 @@ whole l = take_all (length l - 0) l (omega arith)
 module _ (c : Check) (l : List ℕ) (i : ℕ) (d : Check) (j : ℕ) where
   behind-pass : (r : Reached) → Leads c (take (length l - 0) l) i r → d ≡ r.check → j ≡ r.at → Leads c l i (record { at = j; check = d })
   behind-pass r q e f = rw (e, f) (rw (whole l) at q)
+
   behind-none : d ≡ c → j ≡ i → Leads c l i (record { at = j; check = d })
   behind-none e f = rw (e, f) (stays-leads c l i)
 

@@ -2,7 +2,6 @@
 use mathlib.Core.Path.{refl, sym, ◌∙◌}
 use native.Mathlib.Omega.{arith}
 use Rattle.state.proofs.Jumps.{one-text, one-inner, one-second}
-use borrow.Author.Rules.{rules}
 use Rattle.pieces.proofs.jump_form.Goals as goal
 
 pub returns-then-is_inner : goal.returns-then-is_inner

@@ -1,5 +1,4 @@
 -- `pieces::shut` meets its contract.
-use borrow.Author.Rules.{rules}
 use Rattle.state.proofs.Parts.{entered-is}
 use Rattle.pieces.proofs.shut.Goals as goal
 

@@ -3,7 +3,6 @@ use mathlib.Core.Path.{sym, ap, ◌∙◌}
 use Rattle.format.specs.declared.Place.{Place}
 use Rattle.state.specs.Check.{placed}
 use Rattle.state.proofs.Jumps.{refused-step, one-shut}
-use borrow.Author.Rules.{rules}
 use Rattle.pieces.proofs.taken.Goals as goal
 
 pub returns-then-check-ne0 : goal.returns-then-check-ne0

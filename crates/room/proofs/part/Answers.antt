@@ -1,8 +1,6 @@
 -- `room::part` meets its contract.
-use Prim.Native.Nat.{◌≤◌}
 use mathlib.Core.Path.{◌≡◌, sym, ◌∙◌}
 use mathlib.Core.Bool.{true, false}
-use borrow.Author.Tests.{not-true, not-false}
 use Rattle.taking.specs.Walk.{inside_by}
 use Rattle.taking.proofs.Growing.{inside-parts}
 use Rattle.room.proofs.Counted.{part-outside, part_none, part-over, part_room}

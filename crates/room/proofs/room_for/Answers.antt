@@ -2,7 +2,6 @@
 use mir.Syntax.{w32}
 use mir.Val.{Fits}
 use Rattle.room.proofs.Counted.{wide, wide2, wide3, room-none, room-is}
-use borrow.Author.Rules.{rules}
 use Rattle.room.proofs.room_for.Goals as goal
 use Rattle.room.proofs.room_for.Goals.{After-struct_known-1, After-struct_known-2-1, After-struct_known-3-1, After-struct_known-6-1}
 

@@ -1,11 +1,8 @@
 -- `runs::inner_block` meets its contract.
-use Prim.Native.Nat.{ℕ, ◌+◌, ◌-◌, ◌≤◌, ◌<◌}
-use native.Mathlib.Omega.{arith}
-use mathlib.Core.Path.{◌≡◌, sym, ap, ap₂, ◌∙◌}
-use mathlib.Core.Bool.{Bool, ◌&&◌}
+use Prim.Native.Nat.{◌-◌, ◌≤◌}
+use mathlib.Core.Path.{◌≡◌}
 use lib.Dec.{leb}
-use lib.ListN.{length, drop}
-use Rattle.runs.proofs.Runs.{run-reaches, run-reaches-none}
+use lib.ListN.{drop}
 use Rattle.runs.specs.Runs.{run, is_inner}
 use Rattle.runs.proofs.inner_block.Given as goal
 

@@ -2,9 +2,8 @@
 use Prim.Native.Nat.{◌+◌, ◌-◌, ◌≤◌}
 use native.Mathlib.Omega.{arith}
 use mathlib.Core.Path.{sym, ◌∙◌}
-use borrow.Author.Tests.{not-true, not-false}
 use lib.ListN.{length}
-use Rattle.runs.proofs.Runs.{run_none, Blocks, blocks_more, blocks-stop, blocks_end}
+use Rattle.runs.proofs.Runs.{run_none, blocks_more, blocks-stop, blocks_end}
 use Rattle.runs.specs.Runs.{is_inner}
 use Rattle.runs.proofs.inner_blocks.Goals as goal
 

@@ -1,10 +1,7 @@
 -- `runs::inner_blocks` meets its contract. The loop's invariant: whole blocks are passed, and they and the run that is left come to the whole run.
-use Prim.Native.Nat.{◌+◌, ◌-◌, ◌≤◌}
-use native.Mathlib.Omega.{arith}
-use mathlib.Core.Path.{sym, ◌∙◌}
-use borrow.Author.Tests.{not-true, not-false}
+use Prim.Native.Nat.{◌-◌}
 use lib.ListN.{length}
-use Rattle.runs.proofs.Runs.{run_none, Blocks, blocks_more, blocks-stop, blocks_end}
+use Rattle.runs.proofs.Runs.{Blocks}
 use Rattle.runs.specs.Runs.{is_inner}
 use Rattle.runs.proofs.inner_blocks.Given as goal
 

@@ -2,9 +2,8 @@
 use Prim.Native.Nat.{◌-◌}
 use native.Mathlib.Omega.{arith}
 use mathlib.Core.Path.{sym, ◌∙◌}
-use borrow.Author.Tests.{not-true, not-false}
-use lib.ListN.{length, drop, length-drop}
-use Rattle.runs.proofs.Runs.{run-le, Passed, passed-part, passed-more, passed-stops, passed-end}
+use lib.ListN.{drop, length-drop}
+use Rattle.runs.proofs.Runs.{run-le, passed-part, passed-more, passed-stops, passed-end}
 use Rattle.runs.specs.Runs.{is_inner}
 use Rattle.runs.proofs.inner_run.Goals as goal
 

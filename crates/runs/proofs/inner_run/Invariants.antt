@@ -1,10 +1,7 @@
 -- `runs::inner_run` meets its contract. The loop's invariant: what is passed and the run that is left come to the whole run.
 use Prim.Native.Nat.{◌-◌}
-use native.Mathlib.Omega.{arith}
-use mathlib.Core.Path.{sym, ◌∙◌}
-use borrow.Author.Tests.{not-true, not-false}
-use lib.ListN.{length, drop, length-drop}
-use Rattle.runs.proofs.Runs.{run-le, Passed, passed-part, passed-more, passed-stops, passed-end}
+use lib.ListN.{length}
+use Rattle.runs.proofs.Runs.{Passed}
 use Rattle.runs.specs.Runs.{is_inner}
 use Rattle.runs.proofs.inner_run.Given as goal
 

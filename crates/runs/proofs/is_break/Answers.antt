@@ -1,7 +1,6 @@
 -- `runs::is_break` meets its contract.
 use native.Mathlib.Omega.{arith}
 use mathlib.Core.Path.{sym, ◌∙◌}
-use borrow.Author.Rules.{rules}
 use borrow.Author.Tests.{ne_eqb}
 use Rattle.runs.proofs.Runs.{break-two, break-end}
 use Rattle.runs.proofs.is_break.Goals as goal

@@ -1,9 +1,6 @@
 -- `runs::line_feeds` meets its contract. The loop's invariant: the line feeds that are passed and those that are left are all.
-use Prim.Native.Nat.{◌+◌, ◌-◌, ◌≤◌}
+use Prim.Native.Nat.{◌-◌}
 use native.Mathlib.Omega.{arith}
-use mathlib.Core.Path.{◌≡◌}
-use lib.ListN.{length, drop}
-use Rattle.format.specs.Place.{line_feeds}
 use Rattle.runs.proofs.Lines.{feeds-more, feeds-none}
 use Rattle.runs.proofs.line_feeds.Goals as goal
 

@@ -2,9 +2,7 @@
 use Prim.Native.Nat.{◌+◌, ◌-◌}
 use native.Mathlib.Omega.{arith}
 use mathlib.Core.Path.{sym}
-use lib.ListN.{length, drop}
-use Rattle.runs.specs.Runs.{pairs}
-use Rattle.runs.proofs.Runs.{pairs_end, Paired, paired-begins, paired-more, paired-block, paired-first, paired-second}
+use Rattle.runs.proofs.Runs.{pairs_end, paired-begins, paired-more, paired-block, paired-first, paired-second}
 use Rattle.runs.proofs.pair_run.Goals as goal
 
 pub returns-then-s-from : goal.returns-then-s-from

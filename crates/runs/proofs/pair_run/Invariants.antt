@@ -1,10 +1,8 @@
 -- `runs::pair_run` meets its contract. The loop's invariant: the pairs that are passed and those that are left are all.
-use Prim.Native.Nat.{◌+◌, ◌-◌}
-use native.Mathlib.Omega.{arith}
-use mathlib.Core.Path.{sym}
+use Prim.Native.Nat.{◌-◌}
 use lib.ListN.{length, drop}
 use Rattle.runs.specs.Runs.{pairs}
-use Rattle.runs.proofs.Runs.{pairs_end, Paired, paired-begins, paired-more, paired-block, paired-first, paired-second}
+use Rattle.runs.proofs.Runs.{Paired}
 use Rattle.runs.proofs.pair_run.Given as goal
 
 abbrev pub invariant-loop-i : goal.invariant-loop-i

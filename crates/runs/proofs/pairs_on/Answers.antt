@@ -1,9 +1,7 @@
 -- `runs::pairs_on` meets its contract. The loop's invariant: the pairs that are passed and those that are left are all.
-use Prim.Native.Nat.{◌+◌, ◌-◌}
+use Prim.Native.Nat.{◌-◌}
 use native.Mathlib.Omega.{arith}
-use lib.ListN.{length, drop}
-use Rattle.runs.specs.Runs.{pairs}
-use Rattle.runs.proofs.Runs.{Paired, paired-more, paired-first, paired-second, paired-end}
+use Rattle.runs.proofs.Runs.{paired-more, paired-first, paired-second, paired-end}
 use Rattle.runs.proofs.pairs_on.Goals as goal
 
 pub loop-i-init : goal.loop-i-init

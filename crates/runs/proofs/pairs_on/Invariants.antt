@@ -1,9 +1,8 @@
 -- `runs::pairs_on` meets its contract. The loop's invariant: the pairs that are passed and those that are left are all.
 use Prim.Native.Nat.{◌+◌, ◌-◌}
-use native.Mathlib.Omega.{arith}
 use lib.ListN.{length, drop}
 use Rattle.runs.specs.Runs.{pairs}
-use Rattle.runs.proofs.Runs.{Paired, paired-more, paired-first, paired-second, paired-end}
+use Rattle.runs.proofs.Runs.{Paired}
 use Rattle.runs.proofs.pairs_on.Given as goal
 
 abbrev pub invariant-loop-i : goal.invariant-loop-i

@@ -1,8 +1,6 @@
 -- `runs::quote_block` meets its contract.
-use Prim.Native.Nat.{ℕ, ◌+◌, ◌-◌, ◌≤◌, ◌<◌}
+use Prim.Native.Nat.{◌+◌, ◌-◌}
 use native.Mathlib.Omega.{arith}
-use mathlib.Core.Path.{◌≡◌}
-use mathlib.Core.Bool.{true}
 use borrow.Author.Count.{below_more}
 use borrow.Author.Tests.{eqb-true}
 use lib.Dec.{eqb}

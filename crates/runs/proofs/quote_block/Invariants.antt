@@ -1,13 +1,8 @@
 -- `runs::quote_block` meets its contract.
 use Prim.Native.Nat.{ℕ, ◌+◌, ◌-◌, ◌≤◌, ◌<◌}
-use native.Mathlib.Omega.{arith}
 use mathlib.Core.Path.{◌≡◌}
 use mathlib.Core.Bool.{true}
-use borrow.Author.Count.{below_more}
-use borrow.Author.Tests.{eqb-true}
-use lib.Dec.{eqb}
 use lib.ListN.{get_or}
-use Rattle.format.proofs.Tests.{and_both}
 use Rattle.runs.proofs.quote_block.Given as goal
 
 abbrev pub invariant-loop-j : goal.invariant-loop-j

@@ -1,7 +1,7 @@
 -- `runs::since_lf` meets its contract. The loop's invariant: no LF stands from there on.
 use native.Mathlib.Omega.{arith}
 use lib.ListN.{length}
-use Rattle.runs.proofs.Lines.{feeds-none, NoLf, no-lf-more, no-lf-stops, no-lf-end}
+use Rattle.runs.proofs.Lines.{feeds-none, no-lf-more, no-lf-stops, no-lf-end}
 use Rattle.runs.proofs.since_lf.Goals as goal
 
 pub loop-first-init : goal.loop-first-init

@@ -2,10 +2,8 @@
 use Prim.Native.Nat.{◌-◌, ◌<◌}
 use native.Mathlib.Omega.{arith}
 use mathlib.Core.Path.{sym, ◌∙◌}
-use borrow.Author.Tests.{not-true, not-false}
 use lib.ListN.{length}
-use Rattle.format.specs.Dialect.{dialect}
-use Rattle.runs.proofs.Runs.{Passed, passed-more, passed-stops, passed-end}
+use Rattle.runs.proofs.Runs.{passed-more, passed-stops, passed-end}
 use Rattle.runs.specs.Runs.{is_plain}
 use Rattle.runs.proofs.text_run.Goals as goal
 

@@ -1,11 +1,8 @@
 -- `runs::text_run` meets its contract. The loop's invariant: what is passed and the run that is left come to the whole run.
-use Prim.Native.Nat.{◌-◌, ◌<◌}
-use native.Mathlib.Omega.{arith}
-use mathlib.Core.Path.{sym, ◌∙◌}
-use borrow.Author.Tests.{not-true, not-false}
+use Prim.Native.Nat.{◌-◌}
 use lib.ListN.{length}
 use Rattle.format.specs.Dialect.{dialect}
-use Rattle.runs.proofs.Runs.{Passed, passed-more, passed-stops, passed-end}
+use Rattle.runs.proofs.Runs.{Passed}
 use Rattle.runs.specs.Runs.{is_plain}
 use Rattle.runs.proofs.text_run.Given as goal
 

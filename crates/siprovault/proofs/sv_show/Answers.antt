@@ -2,7 +2,6 @@
 use native.Mathlib.Omega.{arith}
 use Rattle.tables.proofs.Showing.{located-clamped}
 use Rattle.siprovault.proofs.Faces.{shows}
-use borrow.Author.Rules.{rules}
 use Rattle.siprovault.proofs.sv_show.Goals as goal
 
 pub returns : goal.returns

@@ -1,7 +1,6 @@
 -- `spans::at_mark` meets its contract.
 use Rattle.spans.proofs.Passing.{stays, goes-bare, bare-fits}
 use native.Mathlib.Omega.{arith}
-use borrow.Author.Rules.{rules}
 use Rattle.spans.proofs.at_mark.Goals as goal
 
 pub overflow_sub-m : goal.overflow_sub-m

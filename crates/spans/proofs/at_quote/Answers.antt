@@ -1,5 +1,4 @@
 -- `spans::at_quote` meets its contract.
-use borrow.Author.Tests.{not-false}
 use Rattle.spans.proofs.Passing.{stays, goes-quoted, quoted-fits}
 use Rattle.spans.specs.Walk.{Closed}
 use native.Mathlib.Omega.{arith}

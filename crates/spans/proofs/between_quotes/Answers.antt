@@ -1,7 +1,6 @@
 -- `spans::between_quotes` meets its contract.
 use mathlib.Core.Path.{refl}
 use native.Mathlib.Omega.{arith}
-use borrow.Author.Rules.{rules}
 use Rattle.spans.proofs.between_quotes.Goals as goal
 
 pub returns-then-s-at : goal.returns-then-s-at

@@ -1,7 +1,6 @@
 -- `spans::inside_field` meets its contract.
 use Prim.Native.Nat.{◌-◌}
 use Rattle.spans.proofs.Quoted.{between-part}
-use borrow.Author.Rules.{rules}
 use Rattle.spans.proofs.inside_field.Goals as goal
 
 pub returns : goal.returns

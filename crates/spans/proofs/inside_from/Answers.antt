@@ -1,11 +1,10 @@
 -- `spans::inside_from` meets its contract.
-use Prim.Native.Nat.{ℕ, ◌+◌, ◌-◌, ◌≤◌, ◌<◌}
+use Prim.Native.Nat.{◌+◌, ◌-◌, ◌≤◌, ◌<◌}
 use mathlib.Core.Path.{ap}
 use native.Mathlib.Omega.{arith}
 use lib.Count.{count_trailing_zeros}
-use lib.ListN.{length, get_or, drop}
+use lib.ListN.{length, drop}
 use Rattle.runs.specs.Runs.{run, is_inner}
-use Rattle.words.specs.Words.{Marks}
 use Rattle.spans.specs.declared.Inside.{Inside}
 use Rattle.spans.specs.Walk.{Between}
 use Rattle.spans.proofs.Quoted.{between_start, between_run, before-mark, without-mark, blocks-on, run_fits}

@@ -1,14 +1,9 @@
 -- `spans::inside_from` meets its contract.
-use Prim.Native.Nat.{ℕ, ◌+◌, ◌-◌, ◌≤◌, ◌<◌}
-use mathlib.Core.Path.{ap}
-use native.Mathlib.Omega.{arith}
-use lib.Count.{count_trailing_zeros}
-use lib.ListN.{length, get_or, drop}
-use Rattle.runs.specs.Runs.{run, is_inner}
+use Prim.Native.Nat.{ℕ, ◌-◌, ◌<◌}
+use lib.ListN.{length, get_or}
+use Rattle.runs.specs.Runs.{is_inner}
 use Rattle.words.specs.Words.{Marks}
-use Rattle.spans.specs.declared.Inside.{Inside}
 use Rattle.spans.specs.Walk.{Between}
-use Rattle.spans.proofs.Quoted.{between_start, between_run, before-mark, without-mark, blocks-on, run_fits}
 use Rattle.spans.proofs.inside_from.Given as goal
 
 abbrev pub invariant-loop-x : goal.invariant-loop-x

@@ -1,7 +1,5 @@
 -- `spans::rows` meets its contract.
 use native.Mathlib.Omega.{arith}
-use borrow.Author.Rules.{rules}
-use borrow.Author.Tests.{not-false}
 use Rattle.spans.proofs.Passing.{walked-leads, still-leads}
 use Rattle.spans.proofs.rows.Goals as goal
 

@@ -3,7 +3,6 @@ use native.Mathlib.Omega.{arith}
 use lib.ListN.{drop, length-drop}
 use Rattle.runs.proofs.Runs.{pairs-le}
 use Rattle.spans.proofs.Quoted.{further-line, further-pairs}
-use borrow.Author.Rules.{rules}
 use Rattle.spans.proofs.stop_on.Goals as goal
 
 pub returns-then-s-p-eq10 : goal.returns-then-s-p-eq10

@@ -2,15 +2,12 @@
 use Prim.Native.Nat.{◌+◌, ◌-◌}
 use mathlib.Core.Path.{◌≡◌, refl, sym, ap}
 use native.Mathlib.Omega.{arith}
-use lib.ListN.{length}
 use lib.Count.{count_trailing_zeros}
-use Rattle.runs.specs.Runs.{is_inner}
-use Rattle.words.specs.Words.{Marks}
 use Rattle.words.proofs.Words.{block}
 use Rattle.spans.specs.declared.Walk.{Walk}
-use Rattle.spans.specs.Walk.{lone_ends, Walking}
+use Rattle.spans.specs.Walk.{Walking}
 use Rattle.spans.proofs.Passing.{walking_start}
-use Rattle.spans.proofs.Words.{Ground, Reading, sized, Mark, first-mark, no-mark, goes_on}
+use Rattle.spans.proofs.Words.{sized, Mark, first-mark, no-mark, goes_on}
 use Rattle.spans.proofs.walk_on.Goals as goal
 use Rattle.spans.proofs.walk_on.Goals.{In-loop-w, After-placed_at-y}
 

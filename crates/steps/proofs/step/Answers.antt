@@ -1,5 +1,4 @@
 -- `steps::step` meets its contract: the entry of the code's table is the rules' step.
-use borrow.Author.Rules.{rules}
 use Rattle.steps.proofs.Rules.{step-any, class_back}
 use Rattle.steps.proofs.step.Goals as goal
 

@@ -1,6 +1,5 @@
 -- `steps::step_by` meets its contract.
 use Rattle.steps.specs.Numbers.{step_by}
-use borrow.Author.Rules.{rules}
 use Rattle.steps.proofs.step_by.Goals as goal
 
 pub returns : goal.returns

@@ -1,7 +1,6 @@
 -- `stream::feed` meets its contract.
 use Rattle.output.proofs.Meaning.{so-fed}
 use Rattle.stream.proofs.Whole.{grew-into}
-use borrow.Author.Rules.{rules}
 use Rattle.stream.proofs.feed.Goals as goal
 
 pub returns : goal.returns

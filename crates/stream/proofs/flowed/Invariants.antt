@@ -1,10 +1,7 @@
 -- `stream::flowed` meets its contract. The loop's invariant: what is to come from the start on is what has come, and then the rest.
 use Prim.Native.Nat.{◌-◌}
-use native.Mathlib.Omega.{arith}
 use lib.ListN.{length}
 use Rattle.taking.specs.Walk.{rest_of, Grew}
-use Rattle.taking.proofs.Growing.{grew_none, grew-sizes}
-use Rattle.stream.proofs.Whole.{turn-ended, turn-taken, turn-less, turn_last}
 use Rattle.stream.proofs.flowed.Given as goal
 
 abbrev pub invariant-loop-h : goal.invariant-loop-h

@@ -1,11 +1,10 @@
 -- `taking::put_text` meets its contract: the byte goes where the blanks end.
-use Prim.Native.Nat.{ℕ, ◌+◌, ◌≤◌}
+use Prim.Native.Nat.{◌+◌, ◌≤◌}
 use native.Mathlib.Omega.{arith}
 use mathlib.Core.Path.{◌≡◌}
 use lib.ListN.{length, replicate}
 use lib.Seq.{sets}
 use Rattle.taking.proofs.Put.{ran, ran-text, text_in, text-yes, text-no}
-use borrow.Author.Rules.{rules}
 use Rattle.taking.proofs.put_text.Goals as goal
 
 pub bounds-text-i : goal.bounds-text-i

@@ -3,15 +3,13 @@ use Prim.Native.Nat.{◌<◌}
 use native.Mathlib.Omega.{arith}
 use mathlib.Core.Path.{◌≡◌, refl, sym, ◌∙◌}
 use mathlib.Core.Bool.{true, false, true≢false}
-use borrow.Author.Tests.{not-true, not-false, leb-false}
+use borrow.Author.Tests.{leb-false}
 use lib.ListN.{length, get_or}
 use Rattle.state.specs.Check.{fed}
-use Rattle.output.specs.Stream.{is_over, shown}
-use Rattle.taking.specs.declared.Flow.{Flow}
+use Rattle.output.specs.Stream.{shown}
 use Rattle.taking.specs.Walk.{Inside, inside_by}
-use Rattle.format.proofs.Tests.{neither, on-true}
+use Rattle.format.proofs.Tests.{neither}
 use Rattle.taking.proofs.Growing.{by-inside, at-end-grew, ended-took, shown-took, put-room, put-took, stick-took}
-use borrow.Author.Rules.{rules}
 use Rattle.taking.proofs.take_byte.Goals as goal
 
 pub returns-then-not-is_inside : goal.returns-then-not-is_inside

@@ -3,7 +3,7 @@ use Prim.Native.Nat.{◌-◌}
 use mathlib.Core.Path.{refl}
 use native.Mathlib.Omega.{arith}
 use Rattle.runs.specs.Runs.{is_inner}
-use Rattle.words.proofs.Words.{MarkedBut, marked_more, marked_all}
+use Rattle.words.proofs.Words.{marked_more, marked_all}
 use Rattle.words.proofs.inner_table.Goals as goal
 
 pub loop-i-init : goal.loop-i-init

@@ -1,9 +1,7 @@
 -- `words::inner_table` meets its contract.
 use Prim.Native.Nat.{◌-◌}
-use mathlib.Core.Path.{refl}
-use native.Mathlib.Omega.{arith}
 use Rattle.runs.specs.Runs.{is_inner}
-use Rattle.words.proofs.Words.{MarkedBut, marked_more, marked_all}
+use Rattle.words.proofs.Words.{MarkedBut}
 use Rattle.words.proofs.inner_table.Given as goal
 
 abbrev pub invariant-loop-i : goal.invariant-loop-i

@@ -2,7 +2,6 @@
 use mathlib.Core.Path.{◌∙◌}
 use native.Mathlib.Omega.{arith}
 use Rattle.words.proofs.Words.{part-short}
-use borrow.Author.Rules.{rules}
 use Rattle.words.proofs.marks_16.Goals as goal
 
 pub returns-then-s-lt16 : goal.returns-then-s-lt16

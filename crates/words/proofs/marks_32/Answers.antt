@@ -1,7 +1,6 @@
 -- `words::marks_32` meets its contract.
 use native.Mathlib.Omega.{arith}
 use Rattle.words.proofs.Words.{halves-fit, halves_join}
-use borrow.Author.Rules.{rules}
 use Rattle.words.proofs.marks_32.Goals as goal
 
 pub overflow_mul-result : goal.overflow_mul-result

@@ -1,9 +1,9 @@
 -- `words::marks_4` meets its contract.
-use Prim.Native.Nat.{ℕ, ◌+◌, ◌-◌, ◌*◌, ◌≤◌, ◌<◌}
+use Prim.Native.Nat.{ℕ, ◌+◌, ◌-◌, ◌*◌, ◌<◌}
 use mathlib.Core.Path.{◌≡◌, ap, ◌∙◌}
 use native.Mathlib.Omega.{arith}
 use mathlib.Core.Bool.{false}
-use lib.ListN.{length, take, drop, get_or}
+use lib.ListN.{take, drop, get_or}
 use Rattle.words.specs.Words.{word}
 use Rattle.words.proofs.Words.{bit_le, part_room, part-more, part_none}
 use Rattle.words.proofs.marks_4.Goals as goal

@@ -1,11 +1,8 @@
 -- `words::marks_4` meets its contract.
-use Prim.Native.Nat.{ℕ, ◌+◌, ◌-◌, ◌*◌, ◌≤◌, ◌<◌}
-use mathlib.Core.Path.{◌≡◌, ap, ◌∙◌}
-use native.Mathlib.Omega.{arith}
-use mathlib.Core.Bool.{false}
-use lib.ListN.{length, take, drop, get_or}
+use Prim.Native.Nat.{◌+◌, ◌-◌, ◌≤◌}
+use mathlib.Core.Path.{◌≡◌}
+use lib.ListN.{length, take, drop}
 use Rattle.words.specs.Words.{word}
-use Rattle.words.proofs.Words.{bit_le, part_room, part-more, part_none}
 use Rattle.words.proofs.marks_4.Given as goal
 
 abbrev pub invariant-loop-i : goal.invariant-loop-i

@@ -3,7 +3,6 @@ use Prim.Native.Nat.{◌+◌, ◌≤◌}
 use native.Mathlib.Omega.{arith}
 use lib.ListN.{length}
 use Rattle.words.proofs.Words.{halves-fit, halves_join}
-use borrow.Author.Rules.{rules}
 use Rattle.words.proofs.marks_64.Goals as goal
 
 pub overflow_mul-result : goal.overflow_mul-result

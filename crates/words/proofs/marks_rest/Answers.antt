@@ -1,10 +1,9 @@
 -- `words::marks_rest` meets its contract.
-use Prim.Native.Nat.{ℕ, ◌+◌, ◌-◌, ◌*◌, ◌≤◌, ◌<◌}
-use mathlib.Core.Path.{◌≡◌, ap, ◌∙◌}
+use Prim.Native.Nat.{ℕ, ◌+◌, ◌-◌, ◌*◌, ◌<◌}
+use mathlib.Core.Path.{ap, ◌∙◌}
 use mathlib.Core.Bool.{false}
 use native.Mathlib.Omega.{arith}
-use lib.ListN.{length, drop, get_or}
-use Rattle.words.specs.Words.{word}
+use lib.ListN.{get_or}
 use Rattle.words.proofs.Words.{bit_le, word_none, rest-room, rest_more, rest_all}
 use Rattle.words.proofs.marks_rest.Goals as goal
 

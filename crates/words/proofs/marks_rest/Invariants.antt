@@ -1,11 +1,8 @@
 -- `words::marks_rest` meets its contract.
-use Prim.Native.Nat.{ℕ, ◌+◌, ◌-◌, ◌*◌, ◌≤◌, ◌<◌}
-use mathlib.Core.Path.{◌≡◌, ap, ◌∙◌}
-use mathlib.Core.Bool.{false}
-use native.Mathlib.Omega.{arith}
-use lib.ListN.{length, drop, get_or}
+use Prim.Native.Nat.{◌+◌, ◌-◌, ◌≤◌, ◌<◌}
+use mathlib.Core.Path.{◌≡◌}
+use lib.ListN.{length, drop}
 use Rattle.words.specs.Words.{word}
-use Rattle.words.proofs.Words.{bit_le, word_none, rest-room, rest_more, rest_all}
 use Rattle.words.proofs.marks_rest.Given as goal
 
 abbrev pub invariant-loop-i : goal.invariant-loop-i

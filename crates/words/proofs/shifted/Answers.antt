@@ -4,7 +4,6 @@ use native.Mathlib.Nat.{lt_of_lt_of_le, div-eq_of_lt}
 use native.Mathlib.Omega.{arith}
 use mathlib.Core.Path.{sym}
 use lib.Pow.{pow_mono}
-use borrow.Author.Rules.{rules}
 use Rattle.words.proofs.shifted.Goals as goal
 
 -- a word has at most 64 marks

@@ -7,7 +7,7 @@ use lib.ListN.{get_or-replicate}
 use Rattle.format.specs.Dialect.{dialect}
 use Rattle.runs.specs.Runs.{is_plain}
 use Rattle.runs.proofs.Bytes.{plain-range}
-use Rattle.words.proofs.Words.{MarkedBut, marked_more, marked_all}
+use Rattle.words.proofs.Words.{marked_more, marked_all}
 use Rattle.words.proofs.stop_table.Goals as goal
 
 pub loop-i-init : goal.loop-i-init

@@ -1,13 +1,8 @@
 -- `words::stop_table` meets its contract.
 use Prim.Native.Nat.{◌-◌}
-use mathlib.Core.Path.{refl, sym, ap, ◌∙◌}
-use mathlib.Core.Bool.{true, false, not}
-use native.Mathlib.Omega.{arith}
-use lib.ListN.{get_or-replicate}
 use Rattle.format.specs.Dialect.{dialect}
 use Rattle.runs.specs.Runs.{is_plain}
-use Rattle.runs.proofs.Bytes.{plain-range}
-use Rattle.words.proofs.Words.{MarkedBut, marked_more, marked_all}
+use Rattle.words.proofs.Words.{MarkedBut}
 use Rattle.words.proofs.stop_table.Given as goal
 
 abbrev pub invariant-loop-i : goal.invariant-loop-i

@@ -1,5 +1,4 @@
 -- `state::Check::jumped` meets its contract.
-use borrow.Author.Rules.{rules}
 use Rattle.state.specs.Check.{jumped}
 use Rattle.state.proofs.Check.jumped.Goals as goal
 

@@ -1,8 +1,7 @@
 -- `state::Check::record_ended` meets its contract.
 use mathlib.Core.Path.{◌≡◌, sym, ◌∙◌}
 use mathlib.Core.Bool.{true, ◌||◌, or-true}
-use mathlib.Core.Logic.{⊎_elim}
-use borrow.Author.Tests.{le-leb, lt-leb, not-true, not-false}
+use borrow.Author.Tests.{le-leb, lt-leb}
 use Rattle.format.specs.Dialect.{ragged, names}
 use Rattle.state.specs.Check.{evenly, record_ended}
 use Rattle.state.proofs.Check.record_ended.Goals as goal
@@ -12,8 +11,9 @@ use Rattle.state.proofs.Check.record_ended.Goals.{Joined-not-even, then-not-even
 allowed : (c : Joined-not-even) → let a = c.args.self in (names a.leniencies ragged || evenly a) ≡ true
 allowed c =
     elim c.if-not-even.branch [
-      then-not-even+else-not-allows_ragged w ↦ rw (sym w.allows_ragged.ensures ∙ w.if-not-allows_ragged.false)
-    | else-not-even w ↦ rw (rw (c.as_wide-even.ensures, c.plus-width.ensures) at (w.if-not-even.false), or-true) ]
+      | then-not-even+else-not-allows_ragged w ↦ rw (sym w.allows_ragged.ensures ∙ w.if-not-allows_ragged.false)
+      | else-not-even w ↦ rw (rw (c.as_wide-even.ensures, c.plus-width.ensures) at (w.if-not-even.false), or-true)
+    ]
 
 pub returns-then-self-gt-CONTENT_LIMIT : goal.returns-then-self-gt-CONTENT_LIMIT
 unfolding record_ended

@@ -1,8 +1,6 @@
 -- `state::Check::stepped` meets its contract.
-use mathlib.Core.Logic.{⊎_elim}
 use borrow.Author.Tests.{eq-eqb, ne_eqb}
 use Rattle.state.specs.Check.{stepped}
-use borrow.Author.Rules.{rules}
 use Rattle.state.proofs.Check.stepped.Goals as goal
 use Rattle.state.proofs.Check.stepped.Goals.{then-k-eq-SHUT, else-k-eq-SHUT}
 
@@ -15,8 +13,9 @@ unfolding stepped
 returns-after-k-eq-SHUT c =
     let e = c.in-Quiet.is in
     elim c.if-k-eq-SHUT.branch [
-      then-k-eq-SHUT w ↦ rw (c.entered.ensures, e, eq-eqb _ _ w.if-k-eq-SHUT.true, w.p-is)
-    | else-k-eq-SHUT w ↦ rw (c.entered.ensures, e, ne_eqb _ _ w.if-k-eq-SHUT.false, w.p-is) ]
+      | then-k-eq-SHUT w ↦ rw (c.entered.ensures, e, eq-eqb _ _ w.if-k-eq-SHUT.true, w.p-is)
+      | else-k-eq-SHUT w ↦ rw (c.entered.ensures, e, ne_eqb _ _ w.if-k-eq-SHUT.false, w.p-is)
+    ]
 
 pub returns-in-Put : goal.returns-in-Put
 unfolding stepped

@@ -1,6 +1,5 @@
 -- `state::Check::take` meets its contract.
 use borrow.Author.Tests.{eq-eqb, ne_eqb}
-use borrow.Author.Rules.{rules}
 use Rattle.state.specs.Check.{fed}
 use Rattle.state.proofs.Check.take.Goals as goal
 
