@@ -104,7 +104,7 @@ counts :
     {c : Called} {text text' : Bytes} {ends rows ends' rows' : List ℕ} {r : Streamed} {piece : Bytes}
     → Into c text ends rows r text' ends' rows' → Within piece (room_of text ends rows) c
     → (r.taken ≤ length piece) × (r.text ≤ length text) × (r.ends ≤ length ends) × (r.rows ≤ length rows)
-counts i w = rw (i.taken, i.text_count, i.ends-count, i.rows-count) (w.taken, w.text, w.ends, w.rows)
+counts i w = rw (i.taken, i.text_count, i.ends_count, i.rows_count) (w.taken, w.text, w.ends, w.rows)
 
 -- a call that puts nothing out leaves ends and rows
 leaves :

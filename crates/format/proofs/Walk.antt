@@ -15,7 +15,7 @@ use Rattle.format.specs.Grammar.{Blanks, Bare, Open, opened, closed, Field, Reco
 use Rattle.format.specs.House.{LastBreak, EmptyFile}
 use Rattle.format.specs.Refusal.{LineEnd, Records}
 use Rattle.format.specs.Reading.{Reading}
-use Rattle.format.specs.Walk.{Holds, RecordAt, record-at, NoRecord, no_record, FaultBefore, fault_before, index_step, Entries, Index, Usable}
+use Rattle.format.specs.Walk.{Holds, RecordAt, record_at, NoRecord, no_record, FaultBefore, fault_before, index_step, Entries, Index, Usable}
 use Rattle.format.proofs.Classes.{LF-is}
 use Rattle.format.proofs.Grow.{record-cut, records-cut, records-more}
 use Rattle.format.proofs.Refusals.{RestOf}
@@ -91,7 +91,7 @@ module _ {d : Dialect} where
   -- behind some records a walk finds what one from there finds
   module _ {f g : Bytes} {t : Table} {j k : ℕ} (r : Records d f t g) (e : length t + j ≡ k) where
     pub record-later : {h i : Bytes} {cs : List Content} → RecordAt d g j h cs i → RecordAt d f k h cs i
-    record-later (record-at {t = u} s q x l) = record-at (records-more d r s) (omega (arith, length-append t u)) x l
+    record-later (record_at {t = u} s q x l) = record_at (records-more d r s) (omega (arith, length-append t u)) x l
 
     pub fault-later : FaultBefore d g j → FaultBefore d f k
     fault-later (fault_before {t = u} s q x y) = fault_before (records-more d r s) (omega (arith, length-append t u)) x y
@@ -104,7 +104,7 @@ module _ {d : Dialect} where
       {f h i : Bytes} {t : Table} {cs : List Content} {k : ℕ} (g : Bytes)
       → (g ≡ [] → ⊥) → Records d f t g → length t ≡ k → Record d g cs h → LineEnd d h i → RecordAt d f k g cs h
   found_at [] n r e x l = absurd (n refl)
-  found_at (b ∷ g) n r e x l = record-at r e x l
+  found_at (b ∷ g) n r e x l = record_at r e x l
 
   -- what is held, a walk finds
   first-at : {g h : Bytes} {cs : List Content} (f : Bytes) → (f ≡ [] → ⊥) → Record d f cs g → LineEnd d g h → RecordAt d f 0 f cs g
@@ -144,13 +144,13 @@ rest-drop {f} {g} (s, q) =
 module _ {d : Dialect} where
   -- where a record stands: its part is in the source, and reads as that record alone
   pub record-from : {f g h : Bytes} {cs : List Content} {k : ℕ} → RecordAt d f k g cs h → RestOf f g
-  record-from (record-at {b} {g} r e x l) = let (s, q, _) = records-cut d (b ∷ g) [] r refl in (s, q)
+  record-from (record_at {b} {g} r e x l) = let (s, q, _) = records-cut d (b ∷ g) [] r refl in (s, q)
 
   pub record-to : {f g h : Bytes} {cs : List Content} {k : ℕ} → RecordAt d f k g cs h → RestOf g h
-  record-to (record-at {h} r e x l) = let (s, q, _) = record-cut d h [] x refl in (s, q)
+  record-to (record_at {h} r e x l) = let (s, q, _) = record-cut d h [] x refl in (s, q)
 
   pub record-part : {f g h : Bytes} {cs : List Content} {k : ℕ} → RecordAt d f k g cs h → Record d (take (length g - length h) g) cs []
-  record-part (record-at {b} {g} {h} {cs} r e x l) =
+  record-part (record_at {b} {g} {h} {cs} r e x l) =
       let (s, q, y) = record-cut d h [] x refl in
       let n : length s ≡ length (b ∷ g) - length h = omega (arith, ap length q, length-append s h) in
       let z : take (length (b ∷ g) - length h) (b ∷ g) ≡ s = ap (take (length (b ∷ g) - length h)) q ∙ take_at s h (length (b ∷ g) - length h) n in
@@ -158,7 +158,7 @@ module _ {d : Dialect} where
 
   -- whole records stand before it, and its beginning is the source's own, or straight behind an LF
   pub record-behind : {f g h : Bytes} {cs : List Content} {k : ℕ} → RecordAt d f k g cs h → (t : Table) × Records d f t g × (length t ≡ k)
-  record-behind (record-at {t} r e x l) = (t, r, e)
+  record-behind (record_at {t} r e x l) = (t, r, e)
 
   -- what stands behind whole records is the source itself, or stands straight behind an LF
   records-behind : {f g : Bytes} {t : Table} → Records d f t g → (f ≡ g) ⊎ ((s : Bytes) × (f ≡ s ++ (0x0A ∷ g)))

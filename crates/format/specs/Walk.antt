@@ -14,7 +14,7 @@ pub data Holds (d : Dialect) (f : Bytes) (t : Table) : Type 0 where
 -- `RecordAt d f k g cs h`: a walk from f finds record k, counted from 0, at g. It holds cs and ends at h, where its line break stands or the file ends. Where no
 -- byte is left, there is no record.
 pub data RecordAt (d : Dialect) (f : Bytes) (k : ℕ) : Bytes → List Content → Bytes → Type 0 where
-  record-at : {b : ℕ} {g h i : Bytes} {t : Table} {cs : List Content}
+  record_at : {b : ℕ} {g h i : Bytes} {t : Table} {cs : List Content}
       → Records d f t (b ∷ g) → length t ≡ k → Record d (b ∷ g) cs h → LineEnd d h i → RecordAt d f k (b ∷ g) cs h
 
 -- a walk from f comes to the file's end and has found no record k

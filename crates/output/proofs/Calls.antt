@@ -17,17 +17,17 @@ use Rattle.state.proofs.Jumps.{fed-join}
 use Rattle.state.proofs.Moves.{fed-none, fed-cons}
 use Rattle.state.proofs.Parts.{started-is}
 use Rattle.output.specs.declared.Stream.{Stream}
-use Rattle.output.specs.Out.{Out, nothing, then, out_of, CameOut, came-out}
+use Rattle.output.specs.Out.{Out, nothing, then, out_of, CameOut, came_out}
 use Rattle.format.specs.SoFar.{so_far}
 use Rattle.output.specs.Stream.{shown, is_over, puts_text, blanks_due, due, Room, fits, left, Called, idle, onward, stuck, taking, streamed}
-use Rattle.output.specs.Promises.{Awaits, nothing-early, content-next, Stands, going, refused}
+use Rattle.output.specs.Promises.{Awaits, nothing_early, content_next, Stands, going, refused}
 use Rattle.format.proofs.Even.{even-none}
 use Rattle.steps.proofs.Forms.{at_start, at-begun}
 use Rattle.output.proofs.Step.{Fresh, Standing, standing, then-nothing, stand-byte, stand-blanks}
 
 -- what stands is out
 pub standing-out : {x sum m : ℕ} {f : Bytes} {e : Check} {o : Out} → Standing x sum f e m o → CameOut (dialect x sum) f m o
-standing-out (standing w l q) = came-out (so_far w.records w.fields (at-begun w.at)) l q
+standing-out (standing w l q) = came_out (so_far w.records w.fields (at-begun w.at)) l q
 
 pub started-standing : (x sum : ℕ) → Standing x sum [] (started x sum) 0 nothing
 unfolding out_of flatten
@@ -93,16 +93,16 @@ idle-after {b} {sum} {f} {o} {s} piece g h = subst (λ (p : Out). Inv b sum (f +
 
 -- nothing is early, or the next byte is content
 awaits-zero : {c : Check} {m x : ℕ} {g : Bytes} → Awaits c m (x ∷ g) → puts_text c (fed c x) ≡ false → m ≡ 0
-awaits-zero nothing-early p = refl
-awaits-zero (content-next s q) p = absurd (true≢false (sym q ∙ p))
+awaits-zero nothing_early p = refl
+awaits-zero (content_next s q) p = absurd (true≢false (sym q ∙ p))
 
 awaits-shown : {c : Check} {m x : ℕ} {g : Bytes} → Awaits c m (x ∷ g) → shown (fed c x) ≡ true → m ≡ 0
-awaits-shown nothing-early p = refl
-awaits-shown (content-next s q) p = absurd (true≢false (sym p ∙ s))
+awaits-shown nothing_early p = refl
+awaits-shown (content_next s q) p = absurd (true≢false (sym p ∙ s))
 
 pub awaits-none : {c : Check} {m : ℕ} {g : Bytes} → Awaits c m g → g ≡ [] → m ≡ 0
-awaits-none nothing-early p = refl
-awaits-none (content-next s q) p = let z : ◌≡◌ {A = ℕ} 0 1 = cc in absurd (omega arith)
+awaits-none nothing_early p = refl
+awaits-none (content_next s q) p = let z : ◌≡◌ {A = ℕ} 0 1 = cc in absurd (omega arith)
 
 -- a byte that shows a refusal; one that is taken; one whose output does not fit
 module _ (b sum : ℕ) (f g : Bytes) (o : Out) (s : Stream) (x : ℕ) (p : s.check ≡ fed_all (started b sum) f) (w : Standing b sum f s.check s.early o)
@@ -121,7 +121,7 @@ module _ (b sum : ℕ) (f g : Bytes) (o : Out) (s : Stream) (x : ℕ) (p : s.che
         (λ g. refused f x refl (subst (λ (c : Check). shown c ≡ false) p q₀) fed-behind h (standing-out (subst (λ (m : ℕ). Standing b sum f s.check m o) (awaits-shown a h) w)))
 
     takes : shown (fed s.check x) ≡ false → Inv b sum (f ++ (x ∷ [])) g (then o (due s.early s.check x (fed s.check x))) (onward (fed s.check x))
-    takes h = inv-going fed-behind h refl (stand-byte x w h (awaits-zero a)) nothing-early
+    takes h = inv-going fed-behind h refl (stand-byte x w h (awaits-zero a)) nothing_early
 
     sticks :
         shown s.check ≡ false → shown (fed s.check x) ≡ false → (j : ℕ) → j ≤ blanks_due s.early s.check (fed s.check x)
@@ -132,7 +132,7 @@ module _ (b sum : ℕ) (f g : Bytes) (o : Out) (s : Stream) (x : ℕ) (p : s.che
         by :
             (y : Bool) → puts_text s.check (fed s.check x) ≡ y
             → Inv b sum f (x ∷ g) (then o (record { text = replicate j 0x20; ends = []; rows = [] })) (record { check = s.check; early = s.early + j; closed = s.closed })
-        by true q = inv-going p h₀ c₀ (stand-blanks x j w h q l) (content-next h q)
+        by true q = inv-going p h₀ c₀ (stand-blanks x j w h q l) (content_next h q)
         by false q =
             let z : j ≤ 0 = rw q at l in
             let j₀ : 0 ≡ j = omega arith in
@@ -143,7 +143,7 @@ module _ (b sum : ℕ) (f g : Bytes) (o : Out) (s : Stream) (x : ℕ) (p : s.che
             sym (then-nothing o) ∙ ap (λ (i : ℕ). then o (record { text = replicate i 0x20; ends = []; rows = [] })) j₀ in
             inv-going p h₀ c₀
             (subst (λ (i : ℕ). Standing b sum f s.check i (then o (record { text = replicate j 0x20; ends = []; rows = [] }))) m₀ (subst (Standing b sum f s.check s.early) o₀ w))
-            (subst (λ (i : ℕ). Awaits s.check i (x ∷ g)) n₀ nothing-early)
+            (subst (λ (i : ℕ). Awaits s.check i (x ∷ g)) n₀ nothing_early)
 
 -- a byte taken before the rest
 taken-after :

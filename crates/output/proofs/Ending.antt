@@ -18,7 +18,7 @@ use Rattle.state.proofs.Byte.{FieldEnds, RecordEnds, Does, act_of, fed-does}
 use Rattle.output.specs.declared.Stream.{Stream}
 use Rattle.output.specs.Out.{Out}
 use Rattle.output.specs.Stream.{shown, is_over, puts_text, due, Room, fits, left, Called, onward, streamed, left_of}
-use Rattle.output.specs.Promises.{Awaits, nothing-early, content-next}
+use Rattle.output.specs.Promises.{Awaits, nothing_early, content_next}
 use Rattle.output.proofs.Step.{clear}
 use Rattle.output.proofs.Meaning.{shown-before}
 use Rattle.output.proofs.Bytewise.{shown-over}
@@ -75,8 +75,8 @@ abbrev Falls : ℕ → Bytes → Called → Type 0
 Falls n f c = (is_over c.state ≡ true) ⊎ (left_of c.state (drop c.taken f) < n)
 
 awaits-held : (c : Check) (m b : ℕ) (f : Bytes) → shown (fed c b) ≡ false → Awaits c m (b ∷ f) → (fed c b).field.held + 1 ≤ 2 + (c.field.held - m)
-awaits-held c m b f i nothing-early = let y = (held-fed c b i).most in omega arith
-awaits-held c m b f i (content-next s q) = let y = (held-fed c b i).none q in omega arith
+awaits-held c m b f i nothing_early = let y = (held-fed c b i).most in omega arith
+awaits-held c m b f i (content_next s q) = let y = (held-fed c b i).none q in omega arith
 
 pub left-falls :
     (b : ℕ) (f : Bytes) (s : Stream) (r : Room) → Awaits s.check s.early (b ∷ f) → 1 ≤ r.text → 1 ≤ r.ends → 1 ≤ r.rows

@@ -27,7 +27,7 @@ use Rattle.state.proofs.Parts.{started-is}
 use Rattle.output.specs.declared.Stream.{Stream}
 use Rattle.output.specs.Out.{Out, nothing, then, CameOut}
 use Rattle.output.specs.Stream.{shown, is_over, Room, fits, Called, stream_started, close_due, closed, answer_of}
-use Rattle.output.specs.Promises.{Awaits, nothing-early, whole_out, Stands, no_dialect, going, refused, declined, accepted}
+use Rattle.output.specs.Promises.{Awaits, nothing_early, whole_out, Stands, no_dialect, going, refused, declined, accepted}
 use Rattle.output.proofs.Step.{Standing, not-shown, then-nothing}
 use Rattle.output.proofs.Close.{closing-out}
 use Rattle.output.proofs.Calls.{going-over, standing-out, started-standing, Inv, inv-going, inv-over, awaits-none}
@@ -92,7 +92,7 @@ unfolding stream_started
 start-inv b sum g = by (is_valid b sum) refl
   where
     by : (x : Bool) → is_valid b sum ≡ x → Inv b sum [] g nothing (stream_started b sum)
-    by true e = inv-going (sym (fed-none (started b sum))) (shown-start b sum e) refl (started-standing b sum) nothing-early
+    by true e = inv-going (sym (fed-none (started b sum))) (shown-start b sum e) refl (started-standing b sum) nothing_early
     by false e = inv-over (over-start b sum e) (λ g. no_dialect (λ v. true≢false (sym (valid-yes b sum v) ∙ e)) refl refl)
 
 -- a refusal that is shown is the answer

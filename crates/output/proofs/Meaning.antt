@@ -17,7 +17,7 @@ use Rattle.state.proofs.Moves.{placed-refuses, fed-none, fed-cons, fed-byte, fed
 use Rattle.state.proofs.Parts.{started-is}
 use Rattle.steps.proofs.Verdicts.{no-valid}
 use Rattle.output.specs.declared.Stream.{Stream}
-use Rattle.output.specs.Out.{Out, nothing, out_of, CameOut, came-out}
+use Rattle.output.specs.Out.{Out, nothing, out_of, CameOut, came_out}
 use Rattle.format.specs.SoFar.{so_far}
 use Rattle.output.specs.Stream.{shown, is_over, Called, stream_started, streamed, closed}
 use Rattle.output.specs.declared.Streamed.{Streamed}
@@ -58,7 +58,7 @@ stand-all x sum (b ∷ f) e c o w h =
     rw (fed-cons c b f) (z.0, subst (λ (l : Bytes). Standing x sum l (fed_all (fed c b) f) 0 z.0) (append_assoc e (b ∷ []) f) z.1)
 
 standing-is : {x sum m : ℕ} {f : Bytes} {c : Check} {o p : Out} → Standing x sum f c 0 o → CameOut (dialect x sum) f m p → Standing x sum f c m p
-standing-is {x} {sum} {m} {p} (standing {k} {n} w l q) (came-out s i j) =
+standing-is {x} {sum} {m} {p} (standing {k} {n} w l q) (came_out s i j) =
     let z = one-so-far (dialect x sum) s (so_far w.records w.fields (at-begun w.at)) in
     let y = z.3 in
     standing w (omega arith) (j ∙ λ i. out_of (z.0 i) (z.1 i) (z.2 i) m)
@@ -116,8 +116,8 @@ into_one p q = (
     state = (p.state ∙ sym q.state) i;
     taken = (p.taken ∙ sym q.taken) i;
     text = (p.text_count ∙ sym q.text_count) i;
-    ends = (p.ends-count ∙ sym q.ends-count) i;
-    rows = (p.rows-count ∙ sym q.rows-count) i;
+    ends = (p.ends_count ∙ sym q.ends_count) i;
+    rows = (p.rows_count ∙ sym q.rows_count) i;
     short = (p.short ∙ sym q.short) i;
     closed = (p.closed ∙ sym q.closed) i;
     answer = (p.answer ∙ sym q.answer) i;

@@ -22,7 +22,7 @@ use Rattle.state.proofs.Moves.{fed-keeps, fed-byte}
 use Rattle.state.proofs.Byte.{FieldEnds, RecordEnds, Does}
 use Rattle.pieces.specs.Asked.{asked}
 use Rattle.pieces.proofs.Asking.{LastEnds, Asks, asks}
-use Rattle.output.specs.Out.{Out, out_of, CameOut, came-out}
+use Rattle.output.specs.Out.{Out, out_of, CameOut, came_out}
 use Rattle.format.specs.SoFar.{so_far}
 use Rattle.output.specs.Stream.{shown}
 use Rattle.format.proofs.Even.{uneven}
@@ -58,7 +58,7 @@ module _ (d : Dialect) (t : Table) (cs : List Content) where
       let (g₀, j, x') = fields-cut d found h₀ x i in
       let (f₀, k, r') = records-cut d found g₀ r j in
       let z = field-begun d p' in
-      (f₀, k, came-out (so_far r' x' z.1) (omega arith) refl)
+      (f₀, k, came_out (so_far r' x' z.1) (omega arith) refl)
 
 module _
     (x sum : ℕ) (f : Bytes) (e : Check) (b : ℕ) (k : Form) (t : Table) (cs : List Content) (c : Content) (n : ℕ) (g h : Bytes)
@@ -74,7 +74,7 @@ module _
     fitting = (every_append Fits (flatten t) cs w.fits).1
 
     here : CameOut (dialect x sum) f 0 (out_of t cs c 0)
-    here = came-out (so_far w.records w.fields (at-begun w.at)) (omega arith) refl
+    here = came_out (so_far w.records w.fields (at-begun w.at)) (omega arith) refl
 
     rs : Records (dialect x sum) (f ++ (b ∷ [])) t (g ++ (b ∷ []))
     rs = records-grow (dialect x sum) (b ∷ []) w.records

@@ -31,7 +31,7 @@ use Rattle.output.specs.declared.Stream.{Stream}
 use Rattle.output.specs.declared.Streamed.{Streamed}
 use Rattle.output.specs.Out.{Out, nothing, out_of, Contents}
 use Rattle.output.specs.Stream.{shown, is_over, Room, fits, Called, close_due, closed, answer_of, closed_by}
-use Rattle.output.specs.Promises.{Awaits, nothing-early, content-next, whole_out, Stands, no_dialect, going, refused, declined, accepted, Into}
+use Rattle.output.specs.Promises.{Awaits, nothing_early, content_next, whole_out, Stands, no_dialect, going, refused, declined, accepted, Into}
 use Rattle.output.proofs.Step.{Standing, standing, clear}
 use Rattle.output.proofs.Calls.{Inv, inv-going, inv-over, going-over, awaits-none}
 use Rattle.output.proofs.Close.{reading-fits, none_left}
@@ -82,8 +82,8 @@ pub filled :
 filled {c} {text} {ends = ends} {rows} w =
     λ i. record {
       text = front c.out.text text w.text_count w.text_is i;
-      ends = front c.out.ends ends w.ends-count w.ends_is i;
-      rows = front c.out.rows rows w.rows-count w.rows_is i;
+      ends = front c.out.ends ends w.ends_count w.ends_is i;
+      rows = front c.out.rows rows w.rows_count w.rows_is i;
     }
 
 -- an answer is the reader's for an accepted file, or refuses
@@ -149,8 +149,8 @@ stands-awaits {b} {sum} {s = s} (no_dialect v p q) = inl (invalid-over b sum s v
 stands-awaits (going p q c o a) = inr (next a)
   where
     next : {c : Check} {m x : ℕ} {g h : Bytes} → Awaits c m (x ∷ g) → Awaits c m (x ∷ h)
-    next nothing-early = nothing-early
-    next (content-next i j) = content-next i j
+    next nothing_early = nothing_early
+    next (content_next i j) = content_next i j
 stands-awaits {s = s} (refused e x i j p q o) = inl (rw q)
 stands-awaits {s = s} (declined p q c h o) = inl (ended-over s c)
 stands-awaits {s = s} (accepted p c h o) = inl (ended-over s c)

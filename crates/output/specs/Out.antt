@@ -31,7 +31,7 @@ out_of t cs c m =
 
 -- what is out once f has been taken, and m of the blanks held have come out before it was
 pub data CameOut (d : Dialect) (f : Bytes) (m : ℕ) (o : Out) : Type 0 where
-  came-out : {n : ℕ} {t : Table} {cs : List Content} {c : Content} → SoFar d f t cs c n → m ≤ n → o ≡ out_of t cs c m → CameOut d f m o
+  came_out : {n : ℕ} {t : Table} {cs : List Content} {c : Content} → SoFar d f t cs c n → m ≤ n → o ≡ out_of t cs c m → CameOut d f m o
 
 -- contents, each within the limit: all that are closed, and of an open one what is out
 pub record Contents (o : Out) : Type 0 where

@@ -15,8 +15,8 @@ use Rattle.output.specs.Stream.{shown, puts_text, stream_started, Room, Called, 
 
 -- Blanks are out before it is known that they stay only where the byte that shows it comes next: it is content, and shows no refusal.
 pub data Awaits (c : Check) : ℕ → Bytes → Type 0 where
-  nothing-early : {g : Bytes} → Awaits c 0 g
-  content-next : {m b : ℕ} {g : Bytes} → shown (fed c b) ≡ false → puts_text c (fed c b) ≡ true → Awaits c m (b ∷ g)
+  nothing_early : {g : Bytes} → Awaits c 0 g
+  content_next : {m b : ℕ} {g : Bytes} → shown (fed c b) ≡ false → puts_text c (fed c b) ≡ true → Awaits c m (b ∷ g)
 
 -- what is out of a table that was accepted: all of it
 abbrev pub whole_out : Table → Out
@@ -49,8 +49,8 @@ pub record Into (c : Called) (text : Bytes) (ends rows : List ℕ) (r : Streamed
   pub closed : r.closed ≡ closed_by c.state
   pub answer : r.answer ≡ answer_of c.state
   pub text_count : r.text ≡ length c.out.text
-  pub ends-count : r.ends ≡ length c.out.ends
-  pub rows-count : r.rows ≡ length c.out.rows
+  pub ends_count : r.ends ≡ length c.out.ends
+  pub rows_count : r.rows ≡ length c.out.rows
   pub text_is : text' ≡ over c.out.text text
   pub ends_is : ends' ≡ over c.out.ends ends
   pub rows_is : rows' ≡ over c.out.rows rows

@@ -14,7 +14,7 @@ use Rattle.format.specs.Grammar.{Field, Record, Break, File}
 use Rattle.format.specs.House.{LastBreak, EmptyFile}
 use Rattle.format.specs.Count.{alone}
 use Rattle.format.specs.Refusal.{LineEnd, Fields, Records}
-use Rattle.format.specs.Walk.{Holds, RecordAt, record-at, NoRecord, no_record, FieldFault, FaultBefore, fault_before, index_step, Entries, Index}
+use Rattle.format.specs.Walk.{Holds, RecordAt, record_at, NoRecord, no_record, FieldFault, FaultBefore, fault_before, index_step, Entries, Index}
 use Rattle.format.proofs.Walk.{FoundOrNone, record-nil, break-nil, found_at, holds-either}
 use Rattle.steps.specs.Steps.{Form, start, lead, bare, quoted, shut, tail, cr, nothing, put, hold, drop, field_end, record_end, Act, refuse, go, step_of}
 use Rattle.steps.specs.Model.{Cell, Trace, refused, last, field, line, change, ending, anchor, seen, doing, closing, run}
@@ -237,7 +237,7 @@ module _ (d : Dialect) where
 
   -- the grammar's walk is this one
   record-walk : {f g h : Bytes} {cs : List Content} {k : ℕ} → RecordAt d f k g cs h → walk k f ≡ stands g h
-  record-walk (record-at r e x l) = records-walk 0 r (omega (arith, e)) ∙ walk_here x l
+  record-walk (record_at r e x l) = records-walk 0 r (omega (arith, e)) ∙ walk_here x l
 
   before-walk : {f : Bytes} {k : ℕ} → FaultBefore d f k → walk k f ≡ fault
   before-walk {k} (fault_before {t} r e x y) = records-walk (k - length t) r (omega arith) ∙ meets x y (k - length t)

@@ -54,8 +54,8 @@ module _ {piece text : Bytes} {ends rows : List ℕ} {s : Stream} {q : Flow} {te
         closed = refl;
         answer = refl;
         text_count = t.0;
-        ends-count = u.0;
-        rows-count = v.0;
+        ends_count = u.0;
+        rows_count = v.0;
         text_is = t.1;
         ends_is = u.1;
         rows_is = v.1;

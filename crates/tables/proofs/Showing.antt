@@ -16,8 +16,8 @@ module _ {text : Bytes} {ends rows : List ℕ} {r c : ℕ} where
   -- a place is there or is not
   never_both : Has text ends rows r c → Lacks text ends rows r c → ⊥
   never_both h (malformed n) = n h.formed
-  never_both h (no_record w l) = omega (arith, h.record-in)
-  never_both h (no_column w l m) = omega (arith, h.column-in)
+  never_both h (no_record w l) = omega (arith, h.record_in)
+  never_both h (no_column w l m) = omega (arith, h.column_in)
 
   module _ (w : WellFormed text ends rows) where
     pub lacks-record : length rows ≤ r → Lacks text ends rows r c
@@ -33,17 +33,17 @@ module _ {text : Bytes} {ends rows : List ℕ} {r c : ℕ} where
         (numbered
         (record {
           formed = w;
-          record-in = rw (table-length text ends rows) h;
-          column-in = omega (arith, record-width w r h, row_within w r h);
+          record_in = rw (table-length text ends rows) h;
+          column_in = omega (arith, record-width w r h, row_within w r h);
         }))
 
   -- the field of a place that is there: its number is within the fields, and its content is that field's
   module _ (h : Has text ends rows r c) where
     row_in : r < length rows
-    row_in = rw (table-length text ends rows) at h.record-in
+    row_in = rw (table-length text ends rows) at h.record_in
 
     column-in-row : start_of rows r + c < get_or rows r 0
-    column-in-row = omega (arith, record-width h.formed r row_in, h.column-in)
+    column-in-row = omega (arith, record-width h.formed r row_in, h.column_in)
 
     pub number_in : start_of rows r + c < length ends
     number_in = omega (arith, column-in-row, (row_within h.formed r row_in).1)
@@ -110,7 +110,7 @@ module _ {text : Bytes} {ends rows : List ℕ} (b : ℕ) (most : (i : ℕ) → g
   same-record r w h = omega (arith, h, records-most w b most, table-length text ends rows)
 
   same-column : (r c : ℕ) → Has text ends rows (min r b) (min c b) → min c b ≡ c
-  same-column r c h = omega (arith, h.column-in, record-width h.formed (min r b) (row_in h), most (min r b))
+  same-column r c h = omega (arith, h.column_in, record-width h.formed (min r b) (row_in h), most (min r b))
 
   lacks-clamped : {r c : ℕ} → Lacks text ends rows (min r b) (min c b) → Lacks text ends rows r c
   lacks-clamped (malformed n) = malformed n
@@ -119,7 +119,7 @@ module _ {text : Bytes} {ends rows : List ℕ} (b : ℕ) (most : (i : ℕ) → g
 
   pub located-clamped : {r c : ℕ} {l : List ℕ} → Located text ends rows (min r b) (min c b) l → Located text ends rows r c l
   located-clamped {r} {c} (lies h) =
-      let d = same-record r h.formed h.record-in in
+      let d = same-record r h.formed h.record_in in
       let e = same-column r c h in
       rw (d, e) (lies (rw (d, e) at h))
   located-clamped (Located.absent n) = Located.absent (lacks-clamped n)

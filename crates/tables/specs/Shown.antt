@@ -7,8 +7,8 @@ module _ (text : Bytes) (ends rows : List ℕ) (r c : ℕ) where
   -- the table is well formed and has the place; or it is malformed, or has no such record or no such column
   pub record Has : Type 0 where
     pub formed : WellFormed text ends rows
-    pub record-in : r < length (table_of text ends rows)
-    pub column-in : c < length (get_or (table_of text ends rows) r [])
+    pub record_in : r < length (table_of text ends rows)
+    pub column_in : c < length (get_or (table_of text ends rows) r [])
 
   pub data Lacks : Type 0 where
     malformed : (WellFormed text ends rows → ⊥) → Lacks
