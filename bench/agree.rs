@@ -1,4 +1,4 @@
-//! The ordinary check and ours, our read and our stream must agree before they are timed.
+//! The ordinary check and ours, our read, our stream and our index must agree before they are timed.
 
 use crate::ordinary::{self, Answer, CONTENT_LIMIT};
 use crate::ours::{self, Buffers};
@@ -57,11 +57,12 @@ pub fn on_small_files() -> String {
         on(file, &mut to);
     }
     let number = FILES.len() + files.len();
-    format!("Both checks, our read and our stream agree on {number} small files.")
+    format!("Both checks, our read, our stream and our index agree on {number} small files.")
 }
 
-/// The answer of the ordinary check, if our check, our read and our stream give the same. Of a table that
-/// is read the last entries are compared too, and of one that is streamed how much of it came.
+/// The answer of the ordinary check, if our check, our read, our stream and our index give the same. Of a
+/// table that is read the last entries are compared too, of one that is streamed how much of it came, and of
+/// an index how many entries it has.
 pub fn on(file: &[u8], to: &mut Buffers) -> Answer {
     let answer = ordinary::check(file);
     let told = ours::told(answer);
@@ -78,7 +79,21 @@ pub fn on(file: &[u8], to: &mut Buffers) -> Answer {
     let all = (answer.records, answer.fields, answer.text);
     let whole = came == all || answer.refusal != 0;
     assert!(whole, "our stream, {came:?}: {}", shown(file));
+    let indexed = ours::index(file, &mut to.rows);
+    let refused = [indexed.refusal, indexed.line, indexed.column, indexed.byte];
+    let expected = [answer.refusal, answer.line, answer.column, answer.byte];
+    assert_eq!(refused, expected, "our index: {}", shown(file));
+    let entries = (answer.records + 63) / 64;
+    assert_eq!(indexed.entries, entries, "our index: {}", shown(file));
     answer
+}
+
+/// Where the records begin of rows that hold no line break.
+pub fn starts_of_rows(file: &[u8]) -> Vec<usize> {
+    let ends = (0..file.len()).filter(|&at| file[at] == b'\n');
+    let mut starts: Vec<usize> = std::iter::once(0).chain(ends.map(|lf| lf + 1)).collect();
+    starts.pop();
+    starts
 }
 
 fn shown(file: &[u8]) -> String {

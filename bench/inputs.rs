@@ -105,6 +105,12 @@ impl Dice {
     }
 }
 
+/// So many numbers below n.
+pub fn at_random(count: usize, n: usize) -> Vec<usize> {
+    let mut dice = Dice(2_463_534_242);
+    (0..count).map(|_| dice.below(n)).collect()
+}
+
 fn rows(limit: usize, front: &str, row: fn(&mut Dice) -> String) -> Vec<u8> {
     let mut dice = Dice(2_463_534_242);
     let mut file = front.as_bytes().to_vec();

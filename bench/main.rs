@@ -1,6 +1,6 @@
-//! Times our check and our whole read beside an ordinary check and csv-core's whole read, and our stream
-//! beside our read. The answers are compared first. A time is the least of several turns, with each job
-//! once in each turn.
+//! Times our check and our whole read beside an ordinary check and csv-core's whole read, our stream
+//! beside our read, our index beside our check, and asks for a record by that index. The answers are
+//! compared first. A time is the least of several turns, with each job once in each turn.
 
 mod agree;
 mod inputs;
@@ -23,16 +23,22 @@ const CHECK: usize = 1;
 const CSV_CORE: usize = 2;
 const READ: usize = 3;
 const STREAM: usize = 4;
-const JOBS: [&str; 5] = [
+const INDEX: usize = 5;
+const JOBS: [&str; 6] = [
     "ordinary check",
     "our check",
     "csv-core read",
     "our read",
     "our stream",
+    "our index",
 ];
 
 /// The stream's pieces, and its room for bytes of text, for ends and for rows.
 const PIECE: usize = 65_536;
+
+/// Asks for a record, at random, and how many of them should fit in the time of one check of the file.
+const ASKS: usize = 1_000_000;
+const ASKS_IN_A_CHECK: f64 = 5_000.0;
 
 /// Seconds of each job on an input; infinite where there is no such job.
 struct Times {
@@ -69,7 +75,7 @@ fn main() {
     );
     println!("The stream has pieces of {PIECE} bytes, and as much room in text, ends and rows.");
     println!("Ratio: of our check to the ordinary check, of our read to csv-core's,");
-    println!("of our stream to our read.");
+    println!("of our stream to our read, of our index to our check.");
     println!(
         "{:<28}{:<16}{:>8}{:>8}{:>8}",
         "input", "job", "ms", "GB/s", "ratio"
@@ -82,6 +88,8 @@ fn main() {
     pieces("our stream, room 64, 16 and 16", 64, |file| {
         ours::stream(file, 64, &mut room).0
     });
+    let check = times_of(&all, inputs::SHORT).least[CHECK];
+    asks(check);
     for (input, job, to, most) in BARS {
         bar(&all, input, job, to, most);
     }
@@ -97,6 +105,7 @@ fn timed(input: &Input, seconds: u64) -> Times {
     let counts = (answer.records, answer.fields, answer.text);
     let mut to = Buffers::cleared(LIMIT, LIMIT / 4);
     let mut room = Buffers::cleared(PIECE, PIECE);
+    let mut index = vec![1; LIMIT / 64];
     let (mut text, mut ends) = (vec![1; LIMIT], vec![1; 4_096]);
     let mut times = Times::none(input.name, file.len());
     let (mut turns, start) = (0, Instant::now());
@@ -105,6 +114,8 @@ fn timed(input: &Input, seconds: u64) -> Times {
         assert_eq!(times.of(ORDINARY, || ordinary::check(&file)), answer);
         assert_eq!(times.of(CHECK, || ours::check(&file)), told);
         assert_eq!(times.of(READ, || ours::read(&file, &mut to)), told);
+        let indexed = times.of(INDEX, || ours::index(&file, &mut index));
+        assert_eq!(indexed.entries, (answer.records + 63) / 64);
         if input.name == inputs::FAULT {
             continue; // csv-core takes it, and the stream is at its end
         }
@@ -144,6 +155,7 @@ impl Times {
                 CHECK if self.input != inputs::FAULT => (speed, self.ratio(CHECK, ORDINARY)),
                 READ => (speed, self.ratio(READ, CSV_CORE)),
                 STREAM => (speed, self.ratio(STREAM, READ)),
+                INDEX => (speed, self.ratio(INDEX, CHECK)),
                 _ => (speed, None),
             };
             let ratio = ratio.map_or(String::new(), |r| format!("{r:.2}"));
@@ -182,9 +194,45 @@ fn pieces(job: &str, size: usize, mut run: impl FnMut(&[u8]) -> ours::Told) {
     println!("{job}, 1 MiB of short rows in pieces of {size}: {each:.2} ns a byte");
 }
 
+/// Times a million asks for records of the short rows, at random, by their index, and says how many of
+/// them take as long as one check, which goes over the file from its beginning.
+fn asks(check: f64) {
+    let file = inputs::short_rows(LIMIT);
+    let starts = agree::starts_of_rows(&file);
+    let mut index = vec![1; LIMIT / 64];
+    let entries = ours::index(&file, &mut index).entries as usize;
+    let records = inputs::at_random(ASKS, starts.len());
+    let mut least = f64::INFINITY;
+    for _ in 0..TURNS {
+        let (seconds, sum) = clocked(|| ours::asks(&file, &index[..entries], &records));
+        let expected: usize = records.iter().map(|&record| starts[record]).sum();
+        assert_eq!(sum, expected, "where the records asked for begin");
+        least = least.min(seconds);
+    }
+    let each = least / ASKS as f64;
+    let in_a_check = check / each;
+    println!(
+        "asks for a record of {} at random: {:.0} a second, {:.0} ns each",
+        starts.len(),
+        1.0 / each,
+        each * 1e9
+    );
+    let verdict = if in_a_check >= ASKS_IN_A_CHECK {
+        "met"
+    } else {
+        "missed"
+    };
+    println!(
+        "asks in the time of one check, at least {ASKS_IN_A_CHECK}: {in_a_check:.0}, {verdict}"
+    );
+}
+
+fn times_of<'a>(all: &'a [Times], input: &str) -> &'a Times {
+    all.iter().find(|times| times.input == input).unwrap()
+}
+
 fn bar(all: &[Times], input: &str, job: usize, to: usize, most: f64) {
-    let times = all.iter().find(|times| times.input == input).unwrap();
-    let verdict = match times.ratio(job, to) {
+    let verdict = match times_of(all, input).ratio(job, to) {
         Some(ratio) if ratio <= most => format!("{ratio:.2}, met"),
         Some(ratio) => format!("{ratio:.2}, missed"),
         None => "not measured".to_string(),

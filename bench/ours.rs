@@ -3,7 +3,7 @@
 
 use crate::ordinary::Answer;
 use crate::other::Counts;
-use crate::siprovault::{self, Check, Stream};
+use crate::siprovault::{self, Check, Indexed, Stream};
 
 /// The three lent buffers.
 pub struct Buffers {
@@ -58,6 +58,16 @@ pub fn check_in_pieces(file: &[u8], size: usize) -> Told {
 
 pub fn read(file: &[u8], to: &mut Buffers) -> Told {
     siprovault::read_strict(file, &mut to.text, &mut to.ends, &mut to.rows)
+}
+
+pub fn index(file: &[u8], index: &mut [u32]) -> Indexed {
+    siprovault::index(file, siprovault::COMMA, 0, index)
+}
+
+/// Asks for each of these records: the sum of where they begin.
+pub fn asks(file: &[u8], index: &[u32], records: &[usize]) -> usize {
+    let ask = |&record: &usize| siprovault::jump(file, siprovault::COMMA, 0, index, record);
+    records.iter().map(|r| ask(r).start as usize).sum()
 }
 
 /// The stream in pieces of so many bytes, each call's output over the last one's: its answer, and the

@@ -11,8 +11,9 @@
  * What C cannot promise for its caller:
  * - A pointer with a length above 0 points to that many entries, which nobody else changes during the
  *   call. With length 0 it may be NULL.
- * - A length counts entries: bytes of a file, a text, a piece or a name, numbers of ends and rows.
- * - ends and rows are aligned as uint32_t is, at a multiple of 4 bytes.
+ * - A length counts entries: bytes of a file, a text, a piece or a name, numbers of ends, rows and an
+ *   index.
+ * - ends, rows and an index are aligned as uint32_t is, at a multiple of 4 bytes.
  * - A buffer that is written overlaps no other argument of the call.
  */
 #ifndef SIPROVAULT_H
@@ -79,6 +80,9 @@ extern "C" {
 #define SV_NO_ROOM_IN_OUT 15 /* for the written file */
 #define SV_EQUAL_NAMES 16    /* two in the header: the later column */
 #define SV_NO_SUCH_NAME 17   /* or no records */
+#define SV_NO_SUCH_RECORD 18 /* or the index has no entry for it */
+#define SV_NO_ROOM_IN_INDEX 19
+#define SV_WRONG_INDEX 20 /* it is not of this file and dialect: see sv_jump */
 
 /*
  * The answer to a file. Accepted: refusal, line, column and byte are 0, and the others say what the file
@@ -278,6 +282,50 @@ static inline sv_bytes sv_shown(const uint8_t *text, sv_part part, const uint8_t
     }
     return shown;
 }
+
+/*
+ * The answer to an index. Accepted: entries is how many the file has, one for each 64 records or what is
+ * left of them, and the others are 0. Refused: entries is 0, refusal, line, column and byte are those of
+ * the file, or 19 and 0, 0, 0.
+ */
+typedef struct {
+    uint32_t refusal, line, column, byte;
+    uint32_t entries;
+} sv_indexed;
+
+/*
+ * Builds the index of a file in a dialect: where in the file records 0, 64, 128 and so on begin, as byte
+ * offsets from 0; nothing for the empty file. A file that is not accepted gives the refusal of sv_read and
+ * its place; then 19 where index has too few entries. Always enough are (file_len + 63) / 64 entries.
+ * Entries behind the used ones are left alone.
+ */
+sv_indexed sv_index(const uint8_t *file, size_t file_len, uint8_t delimiter, uint8_t leniencies,
+                    uint32_t *index, size_t index_len);
+
+/*
+ * Where a record lies in a file: from start, length bytes. line, column and byte are always 0. Refused,
+ * start and length are 0: the first record may lie there and be empty too, so look at refusal.
+ */
+typedef struct {
+    uint32_t refusal, line, column, byte;
+    uint32_t start, length;
+} sv_jumped;
+
+/*
+ * The record of a number, counted from 0, by an index: the part of the file that it is, without its line
+ * break. Hand it the index that sv_index built of this very file and dialect; then the part is the record
+ * that sv_read reads under that number, and 18 comes exactly from the number of records on. index_len is
+ * entries of sv_index's answer, not the room of the buffer: what stands behind them would be taken for
+ * entries too, and a number past the last record might find a record. With any other index only this is
+ * promised: entry record / 64 is where a walk begins, record % 64 records are passed, and the next one is
+ * the answer.
+ *
+ * 1, then 2, then 18 without that entry, then 20 if it is above file_len, or above 0 and not straight
+ * behind an LF, or if the walk meets a fault of 3 to 8 before the record has ended, then 18 where the
+ * walk finds no such record. 9 and 10 are not looked for. At most 64 records of the file are walked over.
+ */
+sv_jumped sv_jump(const uint8_t *file, size_t file_len, uint8_t delimiter, uint8_t leniencies,
+                  const uint32_t *index, size_t index_len, size_t record);
 
 #ifdef __cplusplus
 }

@@ -39,6 +39,9 @@ pub const MALFORMED_TABLE: u32 = 14;
 pub const NO_ROOM_IN_OUT: u32 = 15;
 pub const EQUAL_NAMES: u32 = 16;
 pub const NO_SUCH_NAME: u32 = 17;
+pub const NO_SUCH_RECORD: u32 = 18;
+pub const NO_ROOM_IN_INDEX: u32 = 19;
+pub const WRONG_INDEX: u32 = 20;
 
 /// The answer to a file.
 #[repr(C)]
@@ -120,6 +123,43 @@ pub struct Part {
     pub length: u32,
 }
 
+/// The answer to an index.
+#[repr(C)]
+#[derive(Clone, Copy, Debug, PartialEq, Eq)]
+pub struct Indexed {
+    pub refusal: u32,
+    pub line: u32,
+    pub column: u32,
+    pub byte: u32,
+    pub entries: u32,
+}
+
+impl Indexed {
+    /// The entries that a call with this answer left in its buffer: none where it was refused.
+    pub fn of<'a>(&self, index: &'a [u32]) -> &'a [u32] {
+        &index[..self.entries as usize]
+    }
+}
+
+/// Where a record lies in a file.
+#[repr(C)]
+#[derive(Clone, Copy, Debug, PartialEq, Eq)]
+pub struct Jumped {
+    pub refusal: u32,
+    pub line: u32,
+    pub column: u32,
+    pub byte: u32,
+    pub start: u32,
+    pub length: u32,
+}
+
+impl Jumped {
+    /// That part of the file: empty, at its beginning, where the call was refused.
+    pub fn part<'a>(&self, file: &'a [u8]) -> &'a [u8] {
+        &file[self.start as usize..][..self.length as usize]
+    }
+}
+
 // In each unsafe call below the slices live as long as the call, those that are written are borrowed alone, and
 // each goes with its own length: that is all that the header asks.
 
@@ -160,6 +200,36 @@ pub fn read_strict(file: &[u8], text: &mut [u8], ends: &mut [u32], rows: &mut [u
             ends.len(),
             rows.as_mut_ptr(),
             rows.len(),
+        )
+    }
+}
+
+/// Builds the index of a file: where records 0, 64, 128 and so on begin.
+pub fn index(file: &[u8], delimiter: u8, leniencies: u8, index: &mut [u32]) -> Indexed {
+    unsafe {
+        c::sv_index(
+            file.as_ptr(),
+            file.len(),
+            delimiter,
+            leniencies,
+            index.as_mut_ptr(),
+            index.len(),
+        )
+    }
+}
+
+/// Where the record of a number lies, by the index of this very file and dialect: hand on `Indexed::of`, not the
+/// whole buffer, whose rest would be taken for entries too.
+pub fn jump(file: &[u8], delimiter: u8, leniencies: u8, index: &[u32], record: usize) -> Jumped {
+    unsafe {
+        c::sv_jump(
+            file.as_ptr(),
+            file.len(),
+            delimiter,
+            leniencies,
+            index.as_ptr(),
+            index.len(),
+            record,
         )
     }
 }
@@ -311,7 +381,7 @@ impl<'a> Table<'a> {
 }
 
 mod c {
-    use super::{Answer, Check, Column, Part, Stream, Streamed, Written};
+    use super::{Answer, Check, Column, Indexed, Jumped, Part, Stream, Streamed, Written};
 
     extern "C" {
         pub fn sv_read(
@@ -397,5 +467,24 @@ mod c {
             record: usize,
             column: usize,
         ) -> Part;
+
+        pub fn sv_index(
+            file: *const u8,
+            file_len: usize,
+            delimiter: u8,
+            leniencies: u8,
+            index: *mut u32,
+            index_len: usize,
+        ) -> Indexed;
+
+        pub fn sv_jump(
+            file: *const u8,
+            file_len: usize,
+            delimiter: u8,
+            leniencies: u8,
+            index: *const u32,
+            index_len: usize,
+            record: usize,
+        ) -> Jumped;
     }
 }

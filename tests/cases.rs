@@ -21,6 +21,16 @@ mod file_limit;
 mod hand_states;
 #[path = "cases/headers.rs"]
 mod headers;
+#[path = "cases/jump_faults.rs"]
+mod jump_faults;
+#[path = "cases/jump_laws.rs"]
+mod jump_laws;
+#[path = "cases/jump_long.rs"]
+mod jump_long;
+#[path = "cases/jump_rows.rs"]
+mod jump_rows;
+#[path = "cases/jump_short.rs"]
+mod jump_short;
 #[path = "cases/laws.rs"]
 mod laws;
 #[path = "cases/limit_runs.rs"]
@@ -76,6 +86,9 @@ const PARTS: [&[fn(&mut Out) -> io::Result<()>]; 2] = [
         malformed::send,
         headers::send,
         big_shapes::send,
+        jump_long::send,
+        jump_faults::send,
+        jump_rows::send,
     ],
     &[
         short_files::send,
@@ -91,6 +104,9 @@ const PARTS: [&[fn(&mut Out) -> io::Result<()>]; 2] = [
         runs::send_streams,
         many_rows::send_streams,
         stream_states::send,
+        jump_short::send,
+        runs::send_jumps,
+        many_rows::send_jumps,
     ],
 ];
 
@@ -102,6 +118,7 @@ fn main() -> io::Result<()> {
     };
     laws::hold_of_the_model();
     stream_laws::hold_of_the_model();
+    jump_laws::hold_of_the_model();
     let mut wire = Out::new(BufWriter::with_capacity(1 << 16, io::stdout()))?;
     for send in part {
         send(&mut wire)?;

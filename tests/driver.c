@@ -48,6 +48,7 @@ static const struct {
     {'H', take_stream_hand_state},
     {'M', take_stream_numbered_state},
     {'R', take_unruly_session},
+    {'J', take_jumps},
     {'E', take_trailer},
 };
 
@@ -71,6 +72,7 @@ int main(void)
     states_open();
     sessions_open();
     stream_states_open();
+    jumps_open();
     take_magic();
     while (!take_item())
         continue;

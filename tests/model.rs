@@ -7,6 +7,7 @@
 pub mod dialect;
 pub mod grammar;
 pub mod header;
+pub mod jump;
 pub mod reader;
 pub mod stream;
 pub mod table;
@@ -44,4 +45,7 @@ pub mod refusal {
     pub const NO_ROOM_OUT: u32 = 15;
     pub const EQUAL_NAMES: u32 = 16;
     pub const NO_SUCH_NAME: u32 = 17;
+    pub const NO_SUCH_RECORD: u32 = 18;
+    pub const NO_ROOM_INDEX: u32 = 19;
+    pub const WRONG_INDEX: u32 = 20;
 }

@@ -1,6 +1,7 @@
 /*
  * The header's names against the library: for each refusal a call that is refused so, for each delimiter,
- * leniency and mode one to which it makes a difference, and what the stream's calls give. C99 and C++.
+ * leniency and mode one to which it makes a difference, and what the stream's calls, an index and a jump
+ * give. C99 and C++.
  */
 #include "siprovault.h"
 
@@ -10,7 +11,7 @@
 enum { ROOM = 16777217 };
 
 static uint8_t file[ROOM], text[ROOM], out[64];
-static uint32_t ends[64], rows[64];
+static uint32_t ends[64], rows[64], entries[64];
 static unsigned wrong;
 
 static void is(const char *what, uint32_t came, uint32_t expected)
@@ -59,6 +60,17 @@ static uint32_t found(const char *header, const char *name)
         .refusal;
 }
 
+static sv_indexed indexed(const char *bytes, size_t room)
+{
+    return sv_index((const uint8_t *)bytes, strlen(bytes), SV_COMMA, 0, entries, room);
+}
+
+/* By an index of one entry. */
+static sv_jumped jumped(const char *bytes, uint32_t entry, size_t record)
+{
+    return sv_jump((const uint8_t *)bytes, strlen(bytes), SV_COMMA, 0, &entry, 1, record);
+}
+
 static void refusals(void)
 {
     is("SV_ACCEPTED", strict("a"), SV_ACCEPTED);
@@ -82,6 +94,10 @@ static void refusals(void)
     is("SV_NO_ROOM_IN_OUT", written_in(SV_PLAIN, "a", 2).refusal, SV_NO_ROOM_IN_OUT);
     is("SV_EQUAL_NAMES", found("a,a", "b"), SV_EQUAL_NAMES);
     is("SV_NO_SUCH_NAME", found("a", "b"), SV_NO_SUCH_NAME);
+    is("SV_NO_SUCH_RECORD", jumped("a", 0, 1).refusal, SV_NO_SUCH_RECORD);
+    is("SV_NO_SUCH_RECORD, no entry", jumped("a", 0, 64).refusal, SV_NO_SUCH_RECORD);
+    is("SV_NO_ROOM_IN_INDEX", indexed("a", 0).refusal, SV_NO_ROOM_IN_INDEX);
+    is("SV_WRONG_INDEX", jumped("a", 1, 0).refusal, SV_WRONG_INDEX);
 }
 
 static void dialects(void)
@@ -132,11 +148,29 @@ static void streams(void)
        SV_UNKNOWN_DIALECT_OR_MODE);
 }
 
+static void jumps(void)
+{
+    const char *unequal = "a\r\nbc,d";
+    sv_indexed refused = indexed(unequal, 64);
+    is("refusal, of an index", refused.refusal, SV_UNEQUAL_RECORD);
+    is("line, column and byte", refused.line + 16 * refused.column + 256 * refused.byte,
+       2 + 16 * 5 + 256 * 7);
+    is("entries, refused", refused.entries, 0);
+    is("entries", indexed("a\r\nb", 64).entries, 1);
+    is("the first entry", entries[0], 0);
+    sv_jumped part = jumped(unequal, 0, 1);
+    is("refusal, of a jump", part.refusal, SV_ACCEPTED);
+    is("line, column and byte, of a jump", part.line + part.column + part.byte, 0);
+    is("start", part.start, 3);
+    is("length", part.length, 4);
+}
+
 int main(void)
 {
     refusals();
     dialects();
     streams();
+    jumps();
     if (wrong == 0)
         printf("the header's names are the library's numbers\n");
     return wrong == 0 ? 0 : 1;

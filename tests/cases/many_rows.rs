@@ -2,6 +2,7 @@
 //! 64 bytes.
 
 use crate::content_limit::{with_delimiter, DIALECTS};
+use crate::jump_long;
 use crate::model::{BLANK, CONTENT_LIMIT, QUOTE};
 use crate::random::Random;
 use crate::random_files::{all_dialects, random_pieces};
@@ -78,6 +79,12 @@ pub fn send_streams<W: Write>(wire: &mut Wire<W>) -> io::Result<()> {
     for_each_other(&mut |dialect, trial| send_stream(wire, &mut random, dialect, trial))?;
     wire.section("streams of many plain rows with a field around the content limit")?;
     for_each_long_field(&mut |dialect, trial| send_stream(wire, &mut random, dialect, trial))
+}
+
+/// Those without such fields by the index that a walk gives, each record of them.
+pub fn send_jumps<W: Write>(wire: &mut Wire<W>) -> io::Result<()> {
+    wire.section("jumps in many plain rows with another among them, in 64 dialects")?;
+    for_each_other(&mut |dialect, trial| jump_long::send_every_record(wire, dialect, &trial.recipe))
 }
 
 type Visit<'a> = &'a mut dyn FnMut((u8, u8), &Trial) -> io::Result<()>;

@@ -1,5 +1,6 @@
-//! How much room a read or a write is lent.
+//! How much room a read, a write or an index is lent.
 
+use crate::model::jump::Indexed;
 use crate::model::reader::{check, Answer, Room};
 use crate::model::table::Table;
 use crate::model::writer::{write, FULL, PLAIN};
@@ -79,6 +80,16 @@ pub fn around(length: usize, turn: usize) -> impl Fn(&Answer) -> Vec<Room> {
         } else {
             vec![ample(length), NONE]
         }
+    }
+}
+
+/// For an index exactly enough room, an entry less, and one and two more; if it is refused, room in
+/// which a write would show, and none.
+pub fn for_index(index: &Result<Vec<u32>, Indexed>) -> Vec<usize> {
+    match index.as_ref().map(|entries| entries.len()) {
+        Ok(0) => vec![0, 1, 2],
+        Ok(need) => vec![need, need - 1, need + 1, need + 2],
+        Err(_) => vec![3, 0],
     }
 }
 

@@ -2,6 +2,7 @@
 //! passes many bytes at once could pass one too many or one too few.
 
 use crate::content_limit::with_delimiter;
+use crate::jump_long;
 use crate::laws::agrees_with_the_grammar;
 use crate::random::Random;
 use crate::random_files::all_dialects;
@@ -55,12 +56,14 @@ const KINDS: [Kind; 2] = [
 /// The model is held to the grammar in one file of so many.
 const HELD_TO_THE_GRAMMAR: usize = 29;
 
-/// How the files of a set are tried: each at once, or one in so many at every cut or by the stream.
+/// How the files of a set are tried: each at once, or one in so many at every cut, by the stream or by
+/// indexes.
 #[derive(Clone, Copy)]
 enum How {
     AtOnce,
     AtEveryCut(usize),
     ByStream(usize),
+    ByIndexes(usize),
 }
 
 pub fn send<W: Write>(wire: &mut Wire<W>) -> io::Result<()> {
@@ -98,6 +101,19 @@ pub fn send_streams<W: Write>(wire: &mut Wire<W>) -> io::Result<()> {
     send_rows(wire, How::ByStream(3))
 }
 
+/// Some of these files by indexes.
+pub fn send_jumps<W: Write>(wire: &mut Wire<W>) -> io::Result<()> {
+    let lengths: Vec<usize> = lengths().collect();
+    wire.section("jumps over runs that end around 8 to 128 bytes, in 4 dialects")?;
+    send_runs(wire, How::ByIndexes(2), &FOUR_DIALECTS, &BEFORE, &lengths)?;
+    wire.section("jumps over runs that end around 8 to 64 bytes, in 64 dialects")?;
+    let all: Vec<(u8, u8)> = all_dialects().collect();
+    let how = How::ByIndexes(5);
+    send_runs(wire, how, &all, &SHORT_BEFORE, &SHORT_LENGTHS)?;
+    wire.section("jumps in 130 bytes of rows with something else at every place")?;
+    send_rows(wire, How::ByIndexes(1))
+}
+
 /// A file in the dialect given last, if its turn has come.
 fn send_file<W: Write>(
     wire: &mut Wire<W>,
@@ -124,7 +140,11 @@ fn send_file<W: Write>(
             ];
             stream_long::send_file(wire, &mut random, dialect, &vec![(file, 1)], &manners)
         }
-        How::AtEveryCut(_) | How::ByStream(_) => Ok(()),
+        How::ByIndexes(one_in) if turn % one_in == 0 => {
+            let mut random = Random::from_seed(turn as u64);
+            jump_long::send_random(wire, &mut random, dialect, &file)
+        }
+        How::AtEveryCut(_) | How::ByStream(_) | How::ByIndexes(_) => Ok(()),
     }
 }
 

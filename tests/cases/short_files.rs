@@ -42,6 +42,26 @@ fn send_all<W: Write>(
     })
 }
 
+/// Visits the files in which a model is held to its laws, each with its dialect: up to 3 bytes of twelve in
+/// all, and up to 5 of six in four.
+pub fn for_each_to_hold(visit: &mut impl FnMut(&[u8], (u8, u8))) {
+    let mut hold = |dialect, alphabet: &[u8], longest| {
+        for_each_file(alphabet, longest, &mut |file| {
+            visit(file, dialect);
+            Ok(())
+        })
+        .expect("nothing is written");
+    };
+    for delimiter in DELIMITERS {
+        for leniencies in 0..16 {
+            hold((delimiter, leniencies), TWELVE, 3);
+        }
+    }
+    for leniencies in FOUR_SUMS {
+        hold((b',', leniencies), SIX, 5);
+    }
+}
+
 /// Visits every file of up to `longest` bytes, each before those that it begins.
 pub fn for_each_file(
     alphabet: &[u8],

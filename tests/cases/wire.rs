@@ -26,8 +26,12 @@
 //!   numbers behind the check's, then the room.
 //! - `R`, a session that keeps no rule: delimiter and leniencies; how many calls, each a byte, 1 for
 //!   a close, the room and, if it is no close, the list fed.
+//! - `J`, a file by indexes: delimiter and leniencies; its parts, as in `L`; the answer for its own
+//!   index with room enough and, if that accepts, the index as a list; how many rooms, each with its
+//!   answer; how many records are asked for, and their numbers; how many indexes, each a list and
+//!   then the answer for each of these records.
 //! - `E`, the trailer: how many sections, and for each how many items `W`, `L`, `T`, `C`, `N`, `H`,
-//!   `M` and `R` and sessions of `F`.
+//!   `M`, `R` and `J` and sessions of `F`.
 //!
 //! An outcome is the table's three lists if the last answer accepts, then trials of room: how
 //! many, each with places in text, ends and rows and the answer. A write is a mode as a byte, room,
@@ -41,10 +45,12 @@
 //! file; those behind its end, which are offered behind the stream's end alone, are the driver's.
 
 use crate::model::header::{find_column, show};
+use crate::model::jump::{fit, index, jump};
 use crate::model::reader::{check, read, Answer, Room};
 use crate::model::refusal;
 use crate::model::table::Table;
 use crate::model::writer::write;
+use crate::rooms::for_index;
 use crate::sessions::{Call, Session, NONE};
 use std::io::{self, Write};
 
@@ -288,6 +294,48 @@ impl<W: Write> Wire<W> {
             if let Some(piece) = piece {
                 self.list(piece)?;
             }
+        }
+        Ok(())
+    }
+
+    /// A file whose index is built in several rooms, and whose records of these numbers are asked
+    /// for by each of these indexes, its own or not.
+    pub fn jumps(
+        &mut self,
+        (delimiter, leniencies): (u8, u8),
+        recipe: &Recipe,
+        records: &[u64],
+        indexes: &[Vec<u32>],
+    ) -> io::Result<()> {
+        self.item(b'J')?;
+        self.out.write_all(&[delimiter, leniencies])?;
+        self.parts(recipe)?;
+        let file = file_of(recipe);
+        self.index(&file, (delimiter, leniencies))?;
+        self.number(records.len() as u64)?;
+        records.iter().try_for_each(|&record| self.number(record))?;
+        self.number(indexes.len() as u64)?;
+        for index in indexes {
+            self.list(index)?;
+            for &record in records {
+                let jumped = jump(&file, delimiter, leniencies, index, record);
+                self.answer(&jumped.numbers())?;
+            }
+        }
+        Ok(())
+    }
+
+    fn index(&mut self, file: &[u8], (delimiter, leniencies): (u8, u8)) -> io::Result<()> {
+        let own = index(file, delimiter, leniencies);
+        self.answer(&fit(&own, usize::MAX).numbers())?;
+        if let Ok(entries) = &own {
+            self.list(entries)?;
+        }
+        let rooms = for_index(&own);
+        self.number(rooms.len() as u64)?;
+        for room in rooms {
+            self.number(room as u64)?;
+            self.answer(&fit(&own, room).numbers())?;
         }
         Ok(())
     }

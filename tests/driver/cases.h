@@ -8,6 +8,7 @@ void tables_open(void);
 void states_open(void);
 void sessions_open(void);
 void stream_states_open(void);
+void jumps_open(void);
 
 void take_dialect(void);
 void take_walked_file(void);
@@ -19,5 +20,6 @@ void take_sessions(void);
 void take_stream_hand_state(void);
 void take_stream_numbered_state(void);
 void take_unruly_session(void);
+void take_jumps(void);
 
 #endif

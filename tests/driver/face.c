@@ -14,6 +14,8 @@ enum {
     WRITE,
     FIND_COLUMN,
     SHOW,
+    INDEX,
+    JUMP,
     CALLS
 };
 
@@ -157,6 +159,36 @@ void call_show(const struct table *table, size_t record, size_t column, uint32_t
     answer[2] = part.length;
 }
 
+void call_index(const struct list *file, struct dialect dialect, struct lent *into, size_t room,
+                uint32_t *answer)
+{
+    calls[INDEX]++;
+    const uint8_t *bytes = or_null(list_start(file), file->length);
+    sv_indexed indexed = sv_index(bytes, file->length, dialect.delimiter, dialect.leniencies,
+                                  lend(into, room), room);
+    answer[0] = indexed.refusal;
+    answer[1] = indexed.line;
+    answer[2] = indexed.column;
+    answer[3] = indexed.byte;
+    answer[4] = indexed.entries;
+}
+
+void call_jump(const struct list *file, struct dialect dialect, const struct list *index,
+               size_t record, uint32_t *answer)
+{
+    calls[JUMP]++;
+    const uint8_t *bytes = or_null(list_start(file), file->length);
+    const uint32_t *entries = or_null(list_start(index), index->length);
+    sv_jumped jumped = sv_jump(bytes, file->length, dialect.delimiter, dialect.leniencies, entries,
+                               index->length, record);
+    answer[0] = jumped.refusal;
+    answer[1] = jumped.line;
+    answer[2] = jumped.column;
+    answer[3] = jumped.byte;
+    answer[4] = jumped.start;
+    answer[5] = jumped.length;
+}
+
 static void put_place(sv_place place, uint32_t *to)
 {
     to[0] = place.line;
@@ -250,10 +282,10 @@ sv_bytes shown_of(const struct table *table, const uint32_t *part, const uint8_t
 
 void print_calls(void)
 {
-    static const char *const names[CALLS] = {"sv_read",        "sv_read_strict",  "sv_check_start",
-                                             "sv_check_feed",  "sv_check_ask",    "sv_stream_start",
-                                             "sv_stream_feed", "sv_stream_close", "sv_write",
-                                             "sv_find_column", "sv_show"};
+    static const char *const names[CALLS] = {
+        "sv_read",         "sv_read_strict", "sv_check_start",  "sv_check_feed", "sv_check_ask",
+        "sv_stream_start", "sv_stream_feed", "sv_stream_close", "sv_write",      "sv_find_column",
+        "sv_show",         "sv_index",       "sv_jump"};
     for (size_t i = 0; i < CALLS; i++)
         printf("%9lu  calls of %s\n", (unsigned long)calls[i], names[i]);
 }

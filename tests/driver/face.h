@@ -38,6 +38,10 @@ void call_write(const struct table *table, uint8_t mode, struct lent *out, size_
                 uint32_t *answer);
 void call_find_column(const struct table *table, const struct list *name, uint32_t *answer);
 void call_show(const struct table *table, size_t record, size_t column, uint32_t *answer);
+void call_index(const struct list *file, struct dialect dialect, struct lent *into, size_t room,
+                uint32_t *answer);
+void call_jump(const struct list *file, struct dialect dialect, const struct list *index,
+               size_t record, uint32_t *answer);
 
 /* The numbers of a check's state, in the order of the header, without the bytes between them. */
 enum { STATE = 25 };

@@ -64,7 +64,10 @@ bool disagree(const char *call, ...)
     return print;
 }
 
-static void print_numbers(const char *whose, const uint32_t *numbers, unsigned count)
+const char *const index_names[] = {"refusal", "line", "column", "byte", "entries"};
+const char *const jump_names[] = {"refusal", "line", "column", "byte", "start", "length"};
+
+static const char *const *names_of(unsigned count)
 {
     static const char *const answer[] = {"refusal", "line",   "column", "byte",
                                          "records", "fields", "text",   "report"};
@@ -72,15 +75,29 @@ static void print_numbers(const char *whose, const uint32_t *numbers, unsigned c
     static const char *const written[] = {"refusal", "line", "column", "byte", "length"};
     static const char *const column[] = {"refusal", "column"};
     static const char *const part[] = {"found", "start", "length"};
-    const char *const *names = count == ANSWER    ? answer
-                               : count == GIVEN   ? given
-                               : count == WRITTEN ? written
-                               : count == COLUMN  ? column
-                                                  : part;
+    return count == ANSWER    ? answer
+           : count == GIVEN   ? given
+           : count == WRITTEN ? written
+           : count == COLUMN  ? column
+                              : part;
+}
+
+static void print_numbers(const char *const *names, const char *whose, const uint32_t *numbers,
+                          unsigned count)
+{
     printf("  %s", whose);
     for (unsigned i = 0; i < count; i++)
         printf(" %s=%u", names[i], numbers[i]);
     printf("\n");
+}
+
+static void report_numbers(const char *const *names, const uint32_t *expected, const uint32_t *came,
+                           unsigned count, const char *call, va_list list)
+{
+    if (begin_report(call, list)) {
+        print_numbers(names, "expected:", expected, count);
+        print_numbers(names, "came:    ", came, count);
+    }
 }
 
 bool agree(const uint32_t *expected, const uint32_t *came, unsigned count, const char *call, ...)
@@ -89,12 +106,20 @@ bool agree(const uint32_t *expected, const uint32_t *came, unsigned count, const
         return true;
     va_list list;
     va_start(list, call);
-    bool print = begin_report(call, list);
+    report_numbers(names_of(count), expected, came, count, call, list);
     va_end(list);
-    if (print) {
-        print_numbers("expected:", expected, count);
-        print_numbers("came:    ", came, count);
-    }
+    return false;
+}
+
+bool agree_by(const char *const *names, const uint32_t *expected, const uint32_t *came,
+              unsigned count, const char *call, ...)
+{
+    if (memcmp(expected, came, count * sizeof *came) == 0)
+        return true;
+    va_list list;
+    va_start(list, call);
+    report_numbers(names, expected, came, count, call, list);
+    va_end(list);
     return false;
 }
 

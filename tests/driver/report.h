@@ -7,7 +7,11 @@
 #include <stdint.h>
 
 /* The numbers in each of the library's answers. */
-enum { ANSWER = 8, GIVEN = 6, WRITTEN = 5, COLUMN = 2, PART = 3 };
+enum { ANSWER = 8, GIVEN = 6, WRITTEN = 5, COLUMN = 2, PART = 3, INDEXED = 5, JUMPED = 6 };
+
+/* The names of those of an index and of a jump: other answers have as many. */
+extern const char *const index_names[INDEXED];
+extern const char *const jump_names[JUMPED];
 
 /* A section begins; its name is kept. */
 void section_begins(const uint8_t *name, size_t length);
@@ -21,6 +25,10 @@ bool disagree(const char *call, ...);
 
 /* Compares an answer's numbers and reports it if they differ. */
 bool agree(const uint32_t *expected, const uint32_t *came, unsigned count, const char *call, ...);
+
+/* The same for numbers of these names. */
+bool agree_by(const char *const *names, const uint32_t *expected, const uint32_t *came,
+              unsigned count, const char *call, ...);
 
 void print_bytes(const char *name, const uint8_t *bytes, size_t length);
 void print_words(const char *name, const uint32_t *words, size_t length);

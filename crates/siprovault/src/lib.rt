@@ -9,10 +9,11 @@ ghost use Rattle.reader.specs.Read.{ReadOutcome};
 ghost use Rattle.tables.specs.Search.{Searched};
 ghost use Rattle.tables.specs.Shown.{Located};
 ghost use Rattle.writer.specs.Write.{WriteOutcome};
+ghost use Rattle.jump.specs.Jump.{IndexOutcome, JumpOutcome};
 ghost use Rattle.face.specs.Face.{sv_written_numbers, sv_column_numbers, sv_part_numbers};
 
 use face::{SvColumn, SvPart, SvWritten};
-use format::{Answer, FieldNumber, RecordNumber};
+use format::{Answer, FieldNumber, Indexed, Jumped, RecordNumber};
 use output::{Stream, Streamed};
 use state::Check;
 
@@ -135,4 +136,26 @@ pub extern "C" fn sv_show(
     let r = RecordNumber(face::at_most(record));
     let c = FieldNumber(face::at_most(column));
     face::part(tables::locate(text, ends, rows, r, c))
+}
+
+// Builds the index of a file in a dialect.
+#[unsafe(no_mangle)]
+pub extern "C" fn sv_index(file: &[u8], delimiter: u8, leniencies: u8, index: &mut [u32]) -> Indexed
+    ensures { IndexOutcome delimiter leniencies file.now index.old result index.new }
+{
+    jump::index(file, delimiter, leniencies, index)
+}
+
+// Says where a record lies in a file, by an index.
+#[unsafe(no_mangle)]
+pub extern "C" fn sv_jump(
+    file: &[u8],
+    delimiter: u8,
+    leniencies: u8,
+    index: &[u32],
+    record: usize,
+) -> Jumped
+    ensures { JumpOutcome delimiter leniencies file.now index.now «record» result }
+{
+    jump::locate(file, delimiter, leniencies, index, record)
 }
