@@ -3,14 +3,16 @@
 
 #![tactic(auto)]
 
-use format::{Answer, Place, Totals};
-use std::io;
+use format::Answer;
+use std::fmt::{Display, Formatter, Write};
 use std::io::Read;
+use std::{fmt, io};
 
 fn main(rt: HostRuntime) -> io::Result<()> {
     let mut buffer = [0u8; 65536];
-    let mut check = pieces::start(b',', 0);
+    let mut check = pieces::start(format::STRICT);
     let mut total: usize = 0;
+    // As many reads as the file takes, so no iterator counts them.
     while total <= format::FILE_LIMIT as usize {
         let Ok(n) = rt.stdin().read(&mut buffer) else {
             return complain(&rt);
@@ -21,7 +23,8 @@ fn main(rt: HostRuntime) -> io::Result<()> {
         check = pieces::feed(check, &buffer[..n]);
         total += n;
     }
-    print(&rt, pieces::ask(check))
+    let lines = HouseLines(Answer::from(pieces::ask(check)));
+    print!(&rt; "{lines}")
 }
 
 // A read error is no end of file: nothing on standard output, one line on standard error.
@@ -29,25 +32,24 @@ fn complain(rt: &impl Eprint) -> io::Result<()> {
     eprintln!(rt; "buoycheck: standard input cannot be read")
 }
 
-fn print(rt: &impl Print, answer: Answer) -> io::Result<()> {
-    print_line(rt, "refusal=", answer.refusal as u64)?;
-    print_place(rt, answer.place)?;
-    print_totals(rt, answer.totals)
-}
+// The eight house lines of an answer.
+#[derive(Clone, Copy)]
+struct HouseLines(Answer);
 
-fn print_place(rt: &impl Print, place: Place) -> io::Result<()> {
-    print_line(rt, "line=", place.line.0 as u64)?;
-    print_line(rt, "column=", place.column.0 as u64)?;
-    print_line(rt, "byte=", place.byte.0 as u64)
-}
-
-fn print_totals(rt: &impl Print, totals: Totals) -> io::Result<()> {
-    print_line(rt, "records=", totals.records as u64)?;
-    print_line(rt, "fields=", totals.fields.0 as u64)?;
-    print_line(rt, "text=", totals.text as u64)?;
-    print_line(rt, "report=", totals.report as u64)
-}
-
-fn print_line(rt: &impl Print, name: &str, n: u64) -> io::Result<()> {
-    println!(rt; "{name}{n}")
+impl Display for HouseLines {
+    fn fmt<W: Write>(&self, f: &mut Formatter<W>) -> fmt::Result {
+        let Answer {
+            refusal,
+            place,
+            totals,
+        } = self.0;
+        writeln!(f, "refusal={refusal}")?;
+        writeln!(f, "line={}", place.line.0)?;
+        writeln!(f, "column={}", place.column.0)?;
+        writeln!(f, "byte={}", place.byte.0)?;
+        writeln!(f, "records={}", totals.records)?;
+        writeln!(f, "fields={}", totals.fields.0)?;
+        writeln!(f, "text={}", totals.text)?;
+        writeln!(f, "report={}", totals.report)
+    }
 }

@@ -5,9 +5,12 @@
 
 #![tactic(auto)]
 
-use format::{Answer, Place, Totals, Written};
-use std::io;
-use std::io::Write;
+use face::SvWritten;
+use fill::Buffers;
+use format::{Dialect, Leniency, Place, ReadError, STRICT, Totals};
+use std::fmt::{Display, Formatter, Write};
+use std::{fmt, io};
+use tables::Table;
 
 fn main(rt: HostRuntime) -> io::Result<()> {
     accepted_files(&rt)?;
@@ -38,177 +41,134 @@ fn refused_files(rt: &impl Print) -> io::Result<()> {
 }
 
 fn lenient_files(rt: &impl Print) -> io::Result<()> {
-    lenient(rt, "a LF", b"a\n", "lf", 1)?;
-    lenient(rt, "a,b⏎c", b"a,b\r\nc", "ragged", 4)?;
-    lenient(rt, " a , \"b\" ", b" a , \"b\" ", "blanks", 2)
+    lenient(rt, "a LF", b"a\n", "lf", Leniency::Lf)?;
+    lenient(rt, "a,b⏎c", b"a,b\r\nc", "ragged", Leniency::Ragged)?;
+    lenient(
+        rt,
+        " a , \"b\" ",
+        b" a , \"b\" ",
+        "blanks",
+        Leniency::Blanks,
+    )
 }
 
 fn long_contents(rt: &impl Print) -> io::Result<()> {
-    let mut long = [0u8; 65536];
-    fill(&mut long);
-    around_limit(rt, &long)
-}
-
-fn around_limit(rt: &impl Print, long: &[u8]) -> io::Result<()> {
-    let n = long.len().min(65535);
-    strict(rt, "65,535 times a", &long[..n])?;
-    strict(rt, "65,536 times a", long)
-}
-
-fn fill(buffer: &mut [u8]) {
-    for b in buffer {
-        *b = b'a';
-    }
+    let long = [b'a'; 65536];
+    strict(rt, "65,535 times a", &long[1..])?;
+    strict(rt, "65,536 times a", &long)
 }
 
 fn strict(rt: &impl Print, name: &str, file: &[u8]) -> io::Result<()> {
-    let mut text = [0u8; 65536];
-    let mut ends = [0u32; 8];
-    let mut rows = [0u32; 8];
-    let answer = reader::read_strict(file, &mut text, &mut ends, &mut rows);
-    print_case(
-        rt,
-        name,
-        "strict",
-        answer,
-        pieces::ask(pieces::feed(pieces::start(b',', 0), file)),
-    )
+    case(rt, name, file, "strict", STRICT)
 }
 
 fn lenient(
     rt: &impl Print,
     name: &str,
     file: &[u8],
-    dialect: &str,
-    leniencies: u8,
+    label: &str,
+    leniency: Leniency,
 ) -> io::Result<()> {
-    let mut text = [0u8; 16];
-    let mut ends = [0u32; 8];
-    let mut rows = [0u32; 8];
-    let answer = reader::read(file, b',', leniencies, &mut text, &mut ends, &mut rows);
-    print_case(
-        rt,
-        name,
-        dialect,
-        answer,
-        pieces::ask(pieces::feed(pieces::start(b',', leniencies), file)),
-    )
+    let leniencies = leniency.bit();
+    let dialect = Dialect {
+        leniencies,
+        ..STRICT
+    };
+    case(rt, name, file, label, dialect)
 }
 
-fn print_case(
-    rt: &impl Print,
-    name: &str,
-    dialect: &str,
-    answer: Answer,
-    check: Answer,
-) -> io::Result<()> {
-    print!(rt; "{name} | {dialect} | ")?;
-    print_answer(rt, answer)?;
-    print!(rt; " | ")?;
-    print_answer(rt, check)?;
-    println!(rt; "")
-}
-
-fn print_answer(rt: &impl Print, answer: Answer) -> io::Result<()> {
-    if answer.refusal == 0 {
-        print_totals(rt, answer.totals)
-    } else {
-        let n = answer.refusal;
-        print!(rt; "{n}; ")?;
-        print_place(rt, answer.place)
-    }
-}
-
-fn print_totals(rt: &impl Print, totals: Totals) -> io::Result<()> {
-    print_first(rt, totals.records)?;
-    print_first(rt, totals.fields.0)?;
-    print_first(rt, totals.text)?;
-    let report = totals.report;
-    print!(rt; "{report}")
-}
-
-fn print_place(rt: &impl Print, place: Place) -> io::Result<()> {
-    print_first(rt, place.line.0)?;
-    print_first(rt, place.column.0)?;
-    let byte = place.byte.0;
-    print!(rt; "{byte}")
-}
-
-// A number that others follow.
-fn print_first(rt: &impl Print, n: u32) -> io::Result<()> {
-    print!(rt; "{n}, ")
+// Reads and checks a file in a dialect, of which the line has the label.
+fn case(rt: &impl Print, name: &str, file: &[u8], label: &str, dialect: Dialect) -> io::Result<()> {
+    let mut to = Buffers {
+        text: &mut [0; 65536],
+        ends: &mut [0; 8],
+        rows: &mut [0; 8],
+    };
+    let read = Reading(reader::read(file, dialect, &mut to));
+    let checked = Reading(pieces::checked(file, dialect));
+    println!(rt; "{name} | {label} | {read} | {checked}")
 }
 
 // One record of an empty field and x,y: plain and full. And the file a, line break, two quotes: it has
 // the plain form's length, plus two for the quotes without need, minus two for the break it lacks.
 fn written_files(rt: &impl Print) -> io::Result<()> {
-    let ends = [0u32, 3];
-    let rows = [2u32];
-    written(rt, "plain", b"x,y", &ends, &rows, 0)?;
-    written(rt, "full", b"x,y", &ends, &rows, 1)?;
+    let table = Table {
+        text: b"x,y",
+        ends: &[0, 3],
+        rows: &[2],
+    };
+    written(rt, "plain", &table, 0)?;
+    written(rt, "full", &table, 1)?;
     rewritten(rt, b"a\r\n\"\"")
 }
 
 fn rewritten(rt: &impl Print, file: &[u8]) -> io::Result<()> {
-    let mut text = [0u8; 1];
-    let mut ends = [0u32; 2];
-    let mut rows = [0u32; 2];
-    reader::read_strict(file, &mut text, &mut ends, &mut rows);
-    print_file(rt, file)?;
-    let length = file.len();
-    print!(rt; " | {length} bytes | ")?;
-    written(rt, "plain", &text, &ends, &rows, 0)
+    let mut text = [0; 1];
+    let mut ends = [0; 2];
+    let mut rows = [0; 2];
+    let mut to = Buffers {
+        text: &mut text,
+        ends: &mut ends,
+        rows: &mut rows,
+    };
+    let _ = reader::read_strict(file, &mut to);
+    let table = Table {
+        text: &text,
+        ends: &ends,
+        rows: &rows,
+    };
+    print!(rt; "{} | {} bytes | ", File(file), file.len())?;
+    written(rt, "plain", &table, 0)
 }
 
-fn written(
-    rt: &impl Print,
-    name: &str,
-    text: &[u8],
-    ends: &[u32],
-    rows: &[u32],
-    mode: u8,
-) -> io::Result<()> {
-    let mut out = [0u8; 16];
-    let answer = writer::write(text, ends, rows, mode, &mut out);
-    print!(rt; "{name} | ")?;
-    print_written(rt, &out, answer)
-}
-
-fn print_written(rt: &impl Print, out: &[u8], answer: Written) -> io::Result<()> {
+fn written(rt: &impl Print, name: &str, table: &Table<'_>, mode: u8) -> io::Result<()> {
+    let mut out = [0; 16];
+    let answer = writer::write(table, mode, &mut out);
     match answer {
-        Written::Whole(n) => {
-            let length = out.len().min(n as usize);
-            print_file(rt, &out[..length])?;
-            println!(rt; " | {n} bytes")
+        Ok(n) => {
+            let file = File(&out[..out.len().min(n as usize)]);
+            println!(rt; "{name} | {file} | {n} bytes")
         }
-        Written::UnknownMode => refused(rt, 1),
-        Written::Malformed => refused(rt, 14),
-        Written::Forbidden(_) => refused(rt, 3),
-        Written::LongContent(_) => refused(rt, 9),
-        Written::Uneven(_) => refused(rt, 10),
-        Written::LongFile => refused(rt, 2),
-        Written::NoRoom => refused(rt, 15),
+        Err(_) => println!(rt; "{name} | {}", SvWritten::from(answer).refusal),
     }
 }
 
-fn refused(rt: &impl Print, n: u64) -> io::Result<()> {
-    println!(rt; "{n}")
+// What a file holds, or why it is refused.
+#[derive(Clone, Copy)]
+struct Reading(Result<Totals, ReadError>);
+
+impl Display for Reading {
+    fn fmt<W: Write>(&self, f: &mut Formatter<W>) -> fmt::Result {
+        match self.0 {
+            Ok(
+                Totals {
+                    records,
+                    fields,
+                    text,
+                    report,
+                },
+            ) => write!(f, "{records}, {}, {text}, {report}", fields.0),
+            Err(ReadError { number, place }) => {
+                let Place { line, column, byte } = place;
+                write!(f, "{number}; {}, {}, {}", line.0, column.0, byte.0)
+            }
+        }
+    }
 }
 
 // A file in which LF comes only behind CR, each CRLF shown as one sign.
-fn print_file(rt: &impl Print, file: &[u8]) -> io::Result<()> {
-    for b in file {
-        print_byte(rt, *b)?;
-    }
-    Ok(())
-}
+#[derive(Clone, Copy)]
+struct File<'a>(&'a [u8]);
 
-fn print_byte(rt: &impl Print, b: u8) -> io::Result<()> {
-    if b == b'\n' {
-        print!(rt; "⏎")
-    } else if b == b'\r' {
+impl Display for File<'_> {
+    fn fmt<W: Write>(&self, f: &mut Formatter<W>) -> fmt::Result {
+        for b in self.0 {
+            match b {
+                b'\r' => {}
+                b'\n' => f.write_char('⏎')?,
+                _ => f.write_char(char::from(*b))?,
+            }
+        }
         Ok(())
-    } else {
-        io::writer(rt).write_all(&[b])
     }
 }

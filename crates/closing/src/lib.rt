@@ -3,41 +3,40 @@
 
 #![tactic(auto)]
 
-ghost use Rattle.std.specs.Prelude.{◌≡◌};
 ghost use Rattle.output.specs.Promises.{Closed};
 
-use output::{Stream, Streamed};
+use format::Answer;
+use output::{Buffer, Stream, Streamed};
 
 // Closes the file: both last ends at once. Short of room it writes nothing, and may be repeated.
 pub fn close(s: Stream, ends: &mut [u32], rows: &mut [u32]) -> Streamed
     ensures { Closed s ends.old rows.old result ends.new rows.new }
 {
-    if output::is_over(s) {
-        return output::told(s, 0, 0, 0, 0, 0);
+    if s.is_over() {
+        return s.told();
     }
-    let a = pieces::ask(s.check);
-    if (a.refusal != 0) | (s.check.begun == 0) {
-        return output::told(ended(s), 0, 0, 0, 0, 0);
+    let answer = Answer::from(pieces::ask(s.check));
+    let ended = Stream { closed: 1, ..s };
+    if answer.refusal != 0 || s.check.begun == 0 {
+        return ended.told();
     }
-    if ends.len() == 0 {
-        return output::told(s, 0, 0, 0, 0, 12);
+    if ends.is_empty() {
+        return Streamed {
+            short: Buffer::Ends.number(),
+            ..s.told()
+        };
     }
-    if rows.len() == 0 {
-        return output::told(s, 0, 0, 0, 0, 13);
+    if rows.is_empty() {
+        return Streamed {
+            short: Buffer::Rows.number(),
+            ..s.told()
+        };
     }
-    ends[0] = a.totals.text;
-    rows[0] = a.totals.fields.0;
-    output::told(ended(s), 0, 0, 1, 1, 0)
-}
-
-// The close has given its answer.
-fn ended(s: Stream) -> Stream
-    ensures { result ≡ record { check = s.check; early = s.early; closed = 1 } }
-{
-    let check = s.check;
-    Stream {
-        check,
-        early: s.early,
-        closed: 1,
+    ends[0] = answer.totals.text;
+    rows[0] = answer.totals.fields.0;
+    Streamed {
+        ends: 1,
+        rows: 1,
+        ..ended.told()
     }
 }

@@ -6,7 +6,8 @@ use mathlib.Core.List.{List, []}
 use mathlib.Core.Logic.{inl, inr}
 use lib.ListN.{length}
 use Rattle.format.specs.declared.Answer.{Answer}
-use Rattle.format.specs.declared.Written.{Written, TheVariants.Whole}
+use Rattle.std.specs.Prelude.{Result, Ok}
+use Rattle.format.specs.declared.WriteError.{WriteError}
 use Rattle.format.specs.Table.{Bytes, Table}
 use Rattle.format.specs.Dialect.{strict}
 use Rattle.format.specs.House.{file_limit}
@@ -57,7 +58,7 @@ demand_2 =
       enough_to_write = λ w r. writes.room-enough w.promise r;
       one_reading = λ d p q. theorems.one_reading d _ _ _ _ _ p q;
       reads_back = λ {m = m} {mode = mode} {out = out} w e c k.
-          let o = subst (λ (a : Written). WriteOutcome m.text m.ends m.rows mode out (writer_numbers a) w.left) e w.promise in
+          let o = subst (λ (a : Result ℕ WriteError). WriteOutcome m.text m.ends m.rows mode out (writer_numbers a) w.left) e w.promise in
           let (x, y, z) = memory-back (writes.wrote o refl).formed in
           (reads_as c (writes.reads_back o) k, slices x y z);
       in_pieces = λ {b = b} {sum = sum} s x a. a.answers b sum _ (feeds-stand [] s.stands x);
@@ -90,7 +91,7 @@ demand_3 t n h =
       reads = s.reads;
       ended = s.ended;
       others = s.others;
-      writer_gives_it = λ o w e l k. writes.one-outcome {a = o.answer} {b = Whole (length (plain strict t))} o.promise (plain-outcome t h w e l k);
+      writer_gives_it = λ o w e l k. writes.one-outcome {a = o.answer} {b = Ok (length (plain strict t))} o.promise (plain-outcome t h w e l k);
       tally = λ p. strict-tally n p;
       one_tally = λ x y. one-strict-tally x y;
       size = λ x. let (i, j) = strict-ended x in (strict-length x, i, j);

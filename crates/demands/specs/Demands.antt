@@ -1,10 +1,10 @@
 -- The customer's demands over the calls, in his own words; what stands in brackets is ours. A newcomer starts here, and proofs/Demands shows all of it. A
 -- name that is not defined here is one of format/specs or, where it is about one call, of the specs/ of that call's crate.
-use Rattle.std.specs.Prelude.{ℕ, ◌+◌, ◌*◌, ◌≤◌, ◌<◌, ◌≡◌, true, ◌⊎◌, ◌↔◌, length, take, get_or}
+use Rattle.std.specs.Prelude.{ℕ, ◌+◌, ◌*◌, ◌≤◌, ◌<◌, ◌≡◌, true, ◌⊎◌, ◌↔◌, length, take, get_or, Result, Ok}
 use mathlib.Core.List.{List, [], ◌∷◌, flatten}
 use Rattle.format.specs.declared.Place.{Place}
 use Rattle.format.specs.declared.Answer.{Answer}
-use Rattle.format.specs.declared.Written.{Written, TheVariants.Whole}
+use Rattle.format.specs.declared.WriteError.{WriteError}
 use Rattle.format.specs.Table.{Bytes, Table}
 use Rattle.format.specs.Dialect.{Leniency, Dialect, names, strict}
 use Rattle.format.specs.House.{EndsInBreak, file_limit}
@@ -47,7 +47,7 @@ pub record Read (b sum : ℕ) (f : Bytes) (lent : Slices) : Type 0 where
 
 -- `write` of a table in memory into the buffer out
 pub record Write (m : Slices) (mode : ℕ) (out : Bytes) : Type 0 where
-  pub answer : Written
+  pub answer : Result ℕ WriteError
   pub left : Bytes
   pub promise : WriteOutcome m.text m.ends m.rows mode out (writer_numbers answer) left
 
@@ -102,7 +102,7 @@ pub record Demand2 : Type 0 where
   pub one_reading : (d : Dialect) {f : Bytes} {t u : Table} {r s : ℕ} → Reading d f t r → Reading d f u s → (t ≡ u) × (r ≡ s)
   -- Whatever our writer accepts reads back as the same table.
   pub reads_back :
-      {m lent : Slices} {mode n : ℕ} {out : Bytes} (w : Write m mode out) → w.answer ≡ Whole n
+      {m lent : Slices} {mode n : ℕ} {out : Bytes} (w : Write m mode out) → w.answer ≡ Ok n
       → (c : Read 0x2C 0 (take n w.left) lent) → RoomFor (table_in m) lent → ReadAs c (table_in m) 0 × (memory_of (table_in m) ≡ m)
   -- A check fed in pieces gives, whenever asked, the answer for the bytes fed so far as one whole file, wherever the cuts fell. (The reader's, 11 to 13 apart.)
   pub in_pieces : {b sum : ℕ} {pieces : List Bytes} {c e : Check} {a : Answer} → Started b sum c → Feeds c pieces e → Asked e a → Answers b sum (flatten pieces) a
@@ -120,7 +120,7 @@ pub record Demand3 (t : Table) : Type 0 where
   pub writer_gives_it :
       {m : Slices} {out : Bytes} (w : Write m 0 out) → WellFormed m.text m.ends m.rows → table_in m ≡ t
       → length (plain strict t) ≤ file_limit → length (plain strict t) ≤ length out
-      → (w.answer ≡ Whole (length (plain strict t))) × (w.left ≡ over (plain strict t) out)
+      → (w.answer ≡ Ok (length (plain strict t))) × (w.left ≡ over (plain strict t) out)
   -- Any strict file of that table has that length, plus two for each field quoted without need, minus two if its last line break is missing.
   -- (n fields of f are quoted without need; m is 1 if its last line break is missing, and else 0. A file has one such tally.)
   pub tally : {f : Bytes} {r : ℕ} → Reading strict f t r → (n : ℕ) × (m : ℕ) × Tally strict f t n 0 0 m

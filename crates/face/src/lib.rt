@@ -2,12 +2,12 @@
 
 #![tactic(auto)]
 
-ghost use Rattle.std.specs.Prelude.{◌≡◌, [], ◌∷◌, min};
+ghost use Rattle.std.specs.Prelude.{◌≡◌, min};
 ghost use Rattle.format.specs.Answer.{writer_numbers, search_numbers, part_numbers};
 ghost use Rattle.format.specs.Memory.{largest32};
 ghost use Rattle.face.specs.Face.{written_from, column_from, part_from};
 
-use format::{Column, FieldNumber, Found, Line, Part, TextIndex, Written};
+use format::{Column, FieldNumber, Line, Part, Refusal, SearchError, TextIndex, WriteError};
 
 // An index from 0, of the kind that the refusal tells: of a text byte for 3, of a field for 9, of a
 // record for 10.
@@ -44,80 +44,65 @@ pub struct SvPart {
 pub fn at_most(n: usize) -> u32
     ensures { result ≡ min n largest32 }
 {
-    if n < format::LARGEST_32 {
-        n as u32
-    } else {
-        format::LARGEST_32 as u32
-    }
+    u32::try_from(n).unwrap_or(u32::MAX)
 }
 
-// The five numbers of an answer to a write.
-pub fn written(answer: Written) -> SvWritten
-    ensures { result ≡ written_from (writer_numbers answer) }
-{
-    match answer {
-        Written::Whole(n) => outcome(0, 0, n),
-        Written::UnknownMode => outcome(1, 0, 0),
-        Written::Malformed => outcome(14, 0, 0),
-        Written::Forbidden(b) => outcome(3, b.0, 0),
-        Written::LongContent(k) => outcome(9, k.0, 0),
-        Written::Uneven(r) => outcome(10, r.0, 0),
-        Written::LongFile => outcome(2, 0, 0),
-        Written::NoRoom => outcome(15, 0, 0),
-    }
-}
+// The five numbers of an answer to a write. Of these, line and column are always 0.
+impl From<Result<u32, WriteError>> for SvWritten {
+    ghost from_gives = { λ answer written. written ≡ written_from (writer_numbers answer) };
 
-// Of these five, line and column are always 0.
-fn outcome(refusal: u32, byte: u32, length: u32) -> SvWritten
-    ensures { result ≡ written_from (refusal ∷ 0 ∷ 0 ∷ byte ∷ length ∷ []) }
-{
-    SvWritten {
-        refusal,
-        line: Line(0),
-        column: Column(0),
-        byte: Index(byte),
-        length,
+    fn from(answer: Result<u32, WriteError>) -> Self {
+        let (refusal, byte, length) = match answer {
+            Ok(n) => (0, 0, n),
+            Err(WriteError::UnknownMode) => (Refusal::UnknownDialectOrMode as u32, 0, 0),
+            Err(WriteError::Malformed) => (Refusal::MalformedTable as u32, 0, 0),
+            Err(WriteError::Forbidden(b)) => (Refusal::ForbiddenByte as u32, b.0, 0),
+            Err(WriteError::LongContent(k)) => (Refusal::LongContent as u32, k.0, 0),
+            Err(WriteError::Uneven(r)) => (Refusal::UnequalRecord as u32, r.0, 0),
+            Err(WriteError::LongFile) => (Refusal::LongFile as u32, 0, 0),
+            Err(WriteError::NoRoom) => (Refusal::NoRoomInOut as u32, 0, 0),
+        };
+        SvWritten {
+            refusal,
+            line: Line(0),
+            column: Column(0),
+            byte: Index(byte),
+            length,
+        }
     }
 }
 
 // The two numbers of an answer to a search.
-pub fn found(answer: Found) -> SvColumn
-    ensures { result ≡ column_from (search_numbers answer) }
-{
-    match answer {
-        Found::At(k) => SvColumn {
-            refusal: 0,
-            column: k,
-        },
-        Found::Malformed => SvColumn {
-            refusal: 14,
-            column: FieldNumber(0),
-        },
-        Found::Twice(k) => SvColumn {
-            refusal: 16,
-            column: k,
-        },
-        Found::Missing => SvColumn {
-            refusal: 17,
-            column: FieldNumber(0),
-        },
+impl From<Result<FieldNumber, SearchError>> for SvColumn {
+    ghost from_gives = { λ answer found. found ≡ column_from (search_numbers answer) };
+
+    fn from(answer: Result<FieldNumber, SearchError>) -> Self {
+        let (refusal, column) = match answer {
+            Ok(k) => (0, k),
+            Err(SearchError::Malformed) => (Refusal::MalformedTable as u32, FieldNumber(0)),
+            Err(SearchError::Twice(k)) => (Refusal::EqualNames as u32, k),
+            Err(SearchError::Missing) => (Refusal::NoSuchName as u32, FieldNumber(0)),
+        };
+        SvColumn { refusal, column }
     }
 }
 
 // The three numbers of a part.
-pub fn part(answer: Part) -> SvPart
-    ensures { result ≡ part_from (part_numbers answer) }
-{
-    match answer {
-        Part::Lies(start, length) => SvPart {
-            found: 1,
-            start,
-            length,
-        },
-        Part::Absent => SvPart {
-            found: 0,
-            start: TextIndex(0),
-            length: 0,
-        },
+impl From<Option<Part>> for SvPart {
+    ghost from_gives = { λ answer part. part ≡ part_from (part_numbers answer) };
+
+    fn from(answer: Option<Part>) -> Self {
+        match answer {
+            Some(Part { start, length }) => SvPart {
+                found: 1,
+                start,
+                length,
+            },
+            None => SvPart {
+                found: 0,
+                start: TextIndex(0),
+                length: 0,
+            },
+        }
     }
 }

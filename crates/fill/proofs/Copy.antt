@@ -1,14 +1,12 @@
--- Many bytes at once in the second walk: runs that are put, and a copy.
-use Prim.Native.Nat.{ℕ, zero, suc, ◌+◌, ◌-◌, ◌≤◌, ◌<◌}
+-- Many bytes at once in the second walk: runs that are put.
+use Prim.Native.Nat.{ℕ, zero, suc, ◌+◌, ◌≤◌, ◌<◌}
 use native.Mathlib.Numerals.{add-one}
 use native.Mathlib.Omega.{arith}
-use mathlib.Core.Path.{◌≡◌, refl, sym, ap, ◌∙◌}
+use mathlib.Core.Path.{◌≡◌, ap, ◌∙◌}
 use mathlib.Core.Bool.{Bool, true}
 use mathlib.Core.List.{List, [], ◌∷◌, ◌++◌}
-use lib.ListN.{length, get_or, set, take, drop, length-drop, length-set}
-use lib.Seq.{sets, drop-cons, length-take-le}
-use Rattle.format.specs.Filling.{Filling}
-use Rattle.format.proofs.Filling.{meant, move, push}
+use lib.ListN.{length, get_or, take, drop}
+use lib.Seq.{drop-cons}
 use Rattle.format.specs.Table.{Bytes}
 use Rattle.format.specs.Dialect.{lf, Dialect, class_of}
 use Rattle.steps.specs.Steps.{Form, put, go, step_of}
@@ -58,55 +56,3 @@ two_at f i v e₁ e₂ =
     let e₂' = rw add-one at e₂ in
     let z : suc (suc i) ≡ i + 2 = omega arith in
     drop-cons f i 0 (omega arith) ∙ rw (e₁, drop-cons f (suc i) 0 (omega arith), e₂', z)
-
--- a copy under way
-pub record Copied (f buf₀ : Bytes) (from count at j : ℕ) (buf : Bytes) : Type 0 where
-  pub little : j ≤ count
-  pub file_room : from + count ≤ length f
-  pub text_room : at + count ≤ length buf
-  pub size : length buf ≡ length buf₀
-  pub left : Filling buf (at + j) (take (count - j) (drop (from + j) f)) (sets buf₀ at (take count (drop from f)))
-
-copied_at :
-    (f buf₀ : Bytes) (from count at a b c : ℕ) → from ≡ a → at ≡ b → count ≡ c → at + length (take count (drop from f)) ≤ length buf₀
-    → Filling buf₀ b (take c (drop a f)) (sets buf₀ at (take count (drop from f)))
-copied_at f buf₀ from count at a b c p q r h = rw (sym p, sym q, sym r) (meant buf₀ at (take count (drop from f)) h)
-
-pub copied-start : (f buf₀ : Bytes) (from count at : ℕ) → from + count ≤ length f → at + count ≤ length buf₀ → Copied f buf₀ from count at 0 buf₀
-copied-start f buf₀ from count at h l =
-    let a : from ≡ from + 0 = omega arith in
-    let b : at ≡ at + 0 = omega arith in
-    let c : count ≡ count - 0 = omega arith in
-    let n : length (take count (drop from f)) ≡ count = length-take-le count (drop from f) (rw (length-drop from f) (omega arith)) in
-    record {
-      little = omega arith;
-      file_room = h;
-      text_room = l;
-      size = refl;
-      left = copied_at f buf₀ from count at (from + 0) (at + 0) (count - 0) a b c (omega (arith, n));
-    }
-
-pub copied_more :
-    (f buf₀ : Bytes) (from count at j : ℕ) (buf : Bytes) → Copied f buf₀ from count at j buf → j < count
-    → Copied f buf₀ from count at (j + 1) (set buf (at + j) (get_or f (from + j) 0))
-copied_more f buf₀ from count at j buf h l =
-    let little = h.little in
-    let file_room = h.file_room in
-    let a : count - j ≡ suc (count - (j + 1)) = omega arith in
-    let b : from + (j + 1) ≡ suc (from + j) = omega arith in
-    let e : at + j + 1 ≡ at + (j + 1) = omega arith in
-    let split : take (count - j) (drop (from + j) f) ≡ get_or f (from + j) 0 ∷ take (count - (j + 1)) (drop (from + (j + 1)) f) =
-    rw (a, drop-cons f (from + j) 0 (omega arith), b) in
-    record {
-      little = omega arith;
-      file_room = file_room;
-      text_room = rw (length-set buf (at + j) (get_or f (from + j) 0)) h.text_room;
-      size = length-set buf (at + j) (get_or f (from + j) 0) ∙ h.size;
-      left = rw e at (push _ (move split h.left));
-    }
-
-pub copied_all :
-    (f buf₀ : Bytes) (from count at j : ℕ) (buf : Bytes) → Copied f buf₀ from count at j buf → count ≤ j → buf ≡ sets buf₀ at (take count (drop from f))
-copied_all f buf₀ from count at j buf h l =
-    let a : count - j ≡ 0 = omega arith in
-    (move (ap (λ (n : ℕ). take n (drop (from + j) f)) a) h.left).fills

@@ -11,6 +11,8 @@ use Rattle.format.specs.Dialect.{Dialect}
 use Rattle.format.specs.Filling.{Onward}
 use Rattle.format.proofs.Filling.{move, pushes, sets-append}
 use Rattle.fill.specs.declared.Head.{Head}
+use Rattle.fill.specs.declared.Buffers.{Buffers}
+use Rattle.fill.specs.Buffers.{Lists, SameBuffers}
 use Rattle.fill.specs.Walk.{Grown, Wrote}
 
 module _ {A : Type 0} where
@@ -26,15 +28,9 @@ module _ {A : Type 0} where
       → Grown buf at rest (sets buf at xs) (at + n) rest'
   grown-list xs e l h = record { new = xs; rest_is = h; room = omega arith; buf_is = refl; at_is = omega arith }
 
-  pub grown-from : {buf rest rest₀ buf' rest' : List A} {at at' : ℕ} → rest₀ ≡ rest → Grown buf at rest buf' at' rest' → Grown buf at rest₀ buf' at' rest'
-  grown-from e g = record { new = g.new; rest_is = e ∙ g.rest_is; room = g.room; buf_is = g.buf_is; at_is = g.at_is }
-
-  -- the buffer keeps its length, and its place stays in it
+  -- the buffer keeps its length
   pub grown-size : {buf rest buf' rest' : List A} {at at' : ℕ} → Grown buf at rest buf' at' rest' → length buf' ≡ length buf
   grown-size {buf} {at = at} g = ap length g.buf_is ∙ length-sets buf at g.new
-
-  pub grown-fits : {buf rest buf' rest' : List A} {at at' : ℕ} → Grown buf at rest buf' at' rest' → at ≤ length buf → at' ≤ length buf'
-  grown-fits g l = omega (arith, g.room, g.at_is, grown-size g)
 
   -- what is written and still to come stays as long
   pub grown-all : {buf rest buf' rest' : List A} {at at' : ℕ} → Grown buf at rest buf' at' rest' → at' + length rest' ≡ at + length rest
@@ -59,7 +55,7 @@ module _ {A : Type 0} where
   grown-onward g target w = rw (g.buf_is, g.at_is) (pushes g.new target (move g.rest_is w))
 
 -- the walk stays; it goes on
-pub wrote_none : {w : Bool} {d : Dialect} {f : Bytes} {p : Head} {text ends rows : List ℕ} → Wrote w d f p text ends rows p text ends rows
+pub wrote_none : {w : Bool} {d : Dialect} {f : Bytes} {p : Head} {b : Lists} → Wrote w d f p b p b
 wrote_none =
     record {
       on = omega arith;
@@ -70,9 +66,7 @@ wrote_none =
       rows_on = grown-none refl;
     }
 
-pub wrote_then :
-    {w : Bool} {d : Dialect} {f : Bytes} {p q s : Head} {text ends rows text' ends' rows' text'' ends'' rows'' : List ℕ}
-    → Wrote w d f p text ends rows q text' ends' rows' → Wrote w d f q text' ends' rows' s text'' ends'' rows'' → Wrote w d f p text ends rows s text'' ends'' rows''
+pub wrote_then : {w : Bool} {d : Dialect} {f : Bytes} {p q r : Head} {b b' b'' : Lists} → Wrote w d f p b q b' → Wrote w d f q b' r b'' → Wrote w d f p b r b''
 wrote_then g h =
     record {
       on = omega (arith, g.on, h.on);
@@ -83,8 +77,6 @@ wrote_then g h =
       rows_on = grown-then g.rows_on h.rows_on;
     }
 
--- the buffers keep their lengths
-pub wrote-sizes :
-    {w : Bool} {d : Dialect} {f : Bytes} {p q : Head} {text ends rows text' ends' rows' : List ℕ} → Wrote w d f p text ends rows q text' ends' rows'
-    → (length text' ≡ length text) × (length ends' ≡ length ends) × (length rows' ≡ length rows)
-wrote-sizes g = (grown-size g.text_on, grown-size g.ends_on, grown-size g.rows_on)
+-- the buffers are those that they were, from one call to the next
+pub same-then : {b b' b'' : Buffers} → SameBuffers b b' → SameBuffers b' b'' → SameBuffers b b''
+same-then g h = record { same_text = h.same_text ∙ g.same_text; same_ends = h.same_ends ∙ g.same_ends; same_rows = h.same_rows ∙ g.same_rows }

@@ -1,3 +1,4 @@
+pub mod Buffers
 pub mod Fill
 pub mod Put
 pub mod Walk

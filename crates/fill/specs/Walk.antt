@@ -4,8 +4,9 @@ use Rattle.std.proofs.lemmas.List.Edits.{sets}
 use Rattle.format.specs.Table.{Bytes}
 use Rattle.format.specs.Dialect.{Dialect}
 use Rattle.steps.specs.Steps.{quoted}
-use Rattle.steps.specs.Numbers.{form_number, form_of}
+use Rattle.steps.specs.Numbers.{form_of}
 use Rattle.fill.specs.declared.Head.{Head}
+use Rattle.fill.specs.Buffers.{Lists}
 use Rattle.fill.specs.Fill.{text_left, ends_left, rows_left}
 
 -- what is to be written from a place of the file on; w says whether the file ends with f
@@ -28,13 +29,13 @@ pub record Grown {A : Type 0} (buf : List A) (at : ℕ) (rest buf' : List A) (at
 
 -- the walk has gone from p to q, as far or further on, and has written what lies between: into each buffer, and nothing else. How far it goes is not
 -- said.
-pub record Wrote (w : Bool) (d : Dialect) (f : Bytes) (p : Head) (text ends rows : List ℕ) (q : Head) (text' ends' rows' : List ℕ) : Type 0 where
+pub record Wrote (w : Bool) (d : Dialect) (f : Bytes) (p : Head) (old : Lists) (q : Head) (new : Lists) : Type 0 where
   pub on : p.at ≤ q.at
   pub inside : p.at ≤ length f → q.at ≤ length f
   pub held : q.held + p.at ≤ p.held + q.at
-  pub text_on : Grown text p.text (text_ahead d f p) text' q.text (text_ahead d f q)
-  pub ends_on : Grown ends p.ends (ends_ahead w d f p) ends' q.ends (ends_ahead w d f q)
-  pub rows_on : Grown rows p.rows (rows_ahead w d f p) rows' q.rows (rows_ahead w d f q)
+  pub text_on : Grown old.text p.text (text_ahead d f p) new.text q.text (text_ahead d f q)
+  pub ends_on : Grown old.ends p.ends (ends_ahead w d f p) new.ends q.ends (ends_ahead w d f q)
+  pub rows_on : Grown old.rows p.rows (rows_ahead w d f p) new.rows q.rows (rows_ahead w d f q)
 
 -- a delimiter that is no quote: pairs of quotes are then pairs
 abbrev pub NoQuote : Dialect → Type 0
@@ -48,10 +49,6 @@ pub record Inside (f : Bytes) (at₀ n₀ : ℕ) (text₀ : Bytes) (at n : ℕ) 
   pub text_on : (d : Dialect) → NoQuote d → Grown text₀ n₀ (text_left d (drop at₀ f) quoted 0) text n (text_left d (drop at f) quoted 0)
   pub ends_on : (w : Bool) (d : Dialect) → NoQuote d → ends_left w d (drop at₀ f) quoted 0 n₀ true ≡ ends_left w d (drop at f) quoted 0 n true
   pub rows_on : (w : Bool) (d : Dialect) → NoQuote d → (m : ℕ) → rows_left w d (drop at₀ f) quoted m true ≡ rows_left w d (drop at f) quoted m true
-
--- the head there
-abbrev pub between : ℕ → ℕ → Head → Head
-between at n p = record { at = at; form = form_number quoted; held = 0; text = n; ends = p.ends; rows = p.rows; begun = true }
 
 -- each entry of a list greater by m
 abbrev pub raised : ℕ → List ℕ → List ℕ

@@ -8,7 +8,7 @@ use mathlib.Core.List.{List, [], ◌∷◌, ◌++◌, append_assoc}
 use lib.Dec.{T, eqb}
 use borrow.Author.Tests.{ne_eqb}
 use Rattle.format.specs.Table.{Bytes, Content, Table, Ending}
-use Rattle.format.specs.Dialect.{Dialect, quote, delimits}
+use Rattle.format.specs.Dialect.{Dialect, delimits}
 use Rattle.format.specs.Grammar.{padded, Blanks, Bare, Inside, opened, Quoted, closed, Field, Record, Break, File}
 use Rattle.format.specs.WrittenForms.{is_special, holds_special, needs_quotes, doubled, quoted_form, plain_form, record_by, table_by, plain}
 use Rattle.format.specs.Count.{Measure, sum_in_record, sum_in_file, blank_count, dropped, needless, alone, alones, missing}

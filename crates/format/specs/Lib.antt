@@ -4,6 +4,7 @@ pub mod Dialect
 pub mod Filling
 pub mod Grammar
 pub mod House
+pub mod Meant
 pub mod Memory
 pub mod Place
 pub mod Reading

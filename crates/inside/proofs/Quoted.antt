@@ -1,26 +1,25 @@
 -- The second walk between quotes: bytes of content, pairs of quotes, and what they come to.
-use Prim.Native.Nat.{ℕ, zero, suc, ◌+◌, ◌-◌, ◌≤◌, ◌<◌}
+use Prim.Native.Nat.{ℕ, zero, suc, ◌+◌, ◌*◌, ◌≤◌, ◌<◌}
+use Rattle.std.specs.Prelude.{Some}
 use native.Mathlib.Numerals.{add-one}
 use native.Mathlib.Omega.{arith}
 use mathlib.Core.Path.{◌≡◌, sym, refl, ap, ◌∙◌}
-use mathlib.Core.Bool.{Bool, true, false, cond}
-use mathlib.Core.List.{List, ◌∷◌}
-use lib.Dec.{leb}
-use borrow.Author.Tests.{leb-true}
-use lib.ListN.{length, get_or, set, take, drop, replicate, length-drop, length-set}
-use lib.Seq.{sets, drop-cons}
+use mathlib.Core.Bool.{Bool, true}
+use mathlib.Core.List.{◌∷◌}
+use lib.ListN.{length, get_or, set, take, drop, replicate, length-drop, length-set, length-replicate}
+use lib.Seq.{sets, drop-cons, length-take-le}
 use Rattle.format.specs.Table.{Bytes}
-use Rattle.format.specs.Dialect.{lf, Dialect, strict, class_of}
+use Rattle.format.specs.Dialect.{lf, Dialect, class_of}
 use Rattle.steps.specs.Steps.{quoted, put, go, step_of}
 use Rattle.runs.specs.Runs.{run, is_inner, pairs}
-use Rattle.format.proofs.Tests.{and_both}
-use Rattle.runs.proofs.Runs.{run-le, run-first, pairs-le, pairs_first}
+use Rattle.runs.proofs.Runs.{run-le, run-first, run-within, pairs-le, pairs_first}
 use Rattle.runs.proofs.Bytes.{inner-inside}
 use Rattle.fill.specs.declared.Head.{Head}
 use Rattle.fill.specs.Fill.{text_left, ends_left, rows_left}
-use Rattle.fill.specs.Walk.{text_ahead, ends_ahead, rows_ahead, Wrote, NoQuote, Inside, between}
-use Rattle.fill.specs.Put.{copy_fits}
-use Rattle.fill.proofs.Grown.{grown-none, grown-from, grown-one, grown-then, grown-size}
+use Rattle.fill.specs.Walk.{ends_ahead, rows_ahead, Wrote, NoQuote, Inside}
+use Rattle.fill.specs.Buffers.{Lists}
+use Rattle.fill.specs.Put.{Puts as Written}
+use Rattle.fill.proofs.Grown.{grown-none, grown-one, grown-then}
 use Rattle.fill.proofs.Left.{text_byte, ends-byte, rows-byte}
 use Rattle.fill.proofs.Copy.{two_at}
 use Rattle.format.proofs.Classes.{quote-beside, LF-inside}
@@ -137,10 +136,6 @@ module _ {f : Bytes} {a n₀ : ℕ} {t₀ : Bytes} where
       let more = inside-pair h (omega arith) v q.0 q.1 in
       inside-at z₁ z₂ s (inside-pairs k more (omega (arith, length-set t n 0x22)) q.2)
 
-  -- the text stays as long as it was
-  pub inside-size : {i n : ℕ} {t : Bytes} → Inside f a n₀ t₀ i n t → length t ≡ length t₀
-  inside-size h = grown-size (h.text_on strict (λ e. omega (arith, e)))
-
 -- one behind another
 pub inside-then :
     {f : Bytes} {a b c k n m : ℕ} {t u v : Bytes} → Inside f a k t b n u → Inside f b n u c m v → Inside f a k t c m v
@@ -153,65 +148,61 @@ inside-then g h =
       rows_on = λ w d o j. g.rows_on w d o j ∙ h.rows_on w d o j;
     }
 
-pub grows : (y : Bool) (n k : ℕ) → n ≤ cond y (n + k) n
-grows true n k = omega arith
-grows false n k = omega arith
+-- k pairs of quotes lie in the file, and so do k bytes
+pub pairs-within : (f : Bytes) (i k : ℕ) → i < length f → k ≡ pairs (drop i f) → i + 2 * k ≤ length f
+pairs-within f i k v e = omega (arith, pairs-le (drop i f), length-drop i f)
 
--- what stands at a place, written where it fits
-module _ (f t : Bytes) (i n : ℕ) (v : i < length f) where
-  stays : Inside f i n t i n t
-  stays = inside-start f i n t (omega arith)
+pub bytes-within : (f : Bytes) (i k : ℕ) → i < length f → k ≡ run is_inner (drop i f) → i + k ≤ length f
+bytes-within f i k v e = run-within is_inner f i k (omega arith) (omega (arith, e))
 
-  pub inside-quotes :
-      (k : ℕ) → k ≤ pairs (drop i f) → (y : Bool) → leb (n + k) (length t) ≡ y
-      → Inside f i n t (i + (cond y (n + k) n - n) + (cond y (n + k) n - n)) (cond y (n + k) n) (cond y (sets t n (replicate k 0x22)) t)
-  inside-quotes k l true e =
-      let z : i + (n + k - n) + (n + k - n) ≡ i + (k + k) = omega arith in
-      rw z (inside-pairs k stays (leb-true (n + k) (length t) e) l)
-  inside-quotes k l false e = let z : i + (n - n) + (n - n) ≡ i = omega arith in rw z stays
+-- what stands at a place, written there
+module _ {f t u : Bytes} {i n m : ℕ} (v : i < length f) where
+  pub inside-quotes : {k : ℕ} → k ≡ pairs (drop i f) → Written t n (replicate k 0x22) (Some m) u → Inside f i n t (i + 2 * k) m u
+  inside-quotes {k} e h =
+      let size = length-replicate {A = ℕ} k 0x22 in
+      let at : i + (k + k) ≡ i + 2 * k = omega arith in
+      let to : n + k ≡ m = omega (arith, size, h.place.1) in
+      inside-at at to (sym h.written) (inside-pairs k (inside-start f i n t (omega arith)) (omega (arith, size, h.place.0)) (omega (arith, e)))
 
-  pub inside-feed :
-      get_or f i 0 ≡ 0x0A → (y : Bool) → leb (n + 1) (length t) ≡ y
-      → Inside f i n t (i + (cond y (n + 1) n - n)) (cond y (n + 1) n) (cond y (sets t n (replicate 1 0x0A)) t)
-  inside-feed q true e =
-      let z : i + (n + 1 - n) ≡ i + 1 = omega arith in
-      rw z (inside-LF stays (omega (arith, leb-true (n + 1) (length t) e)) v q)
-  inside-feed q false e = let z : i + (n - n) ≡ i = omega arith in rw z stays
+  pub inside-feed : get_or f i 0 ≡ 0x0A → Written t n (replicate 1 0x0A) (Some m) u → Inside f i n t (i + 1) m u
+  inside-feed q h = inside-at refl (sym h.place.1) (sym h.written) (inside-LF (inside-start f i n t (omega arith)) (omega (arith, h.place.0)) v q)
 
-  pub inside-copied :
-      (k : ℕ) → k ≤ run is_inner (drop i f) → (y : Bool) → copy_fits (length f) i k (length t) n ≡ y
-      → Inside f i n t (i + (cond y (n + k) n - n)) (cond y (n + k) n) (cond y (sets t n (take k (drop i f))) t)
-  inside-copied k l true e =
-      let z : i + (n + k - n) ≡ i + k = omega arith in
-      let room = leb-true (n + k) (length t) (and_both (leb (i + k) (length f)) (leb (n + k) (length t)) e).1 in
-      rw z (inside-run k stays room l)
-  inside-copied k l false e = let z : i + (n - n) ≡ i = omega arith in rw z stays
+  pub inside-copied : {k j : ℕ} → k ≡ run is_inner (drop i f) → j ≡ k → Written t n (take j (drop i f)) (Some m) u → Inside f i n t (i + k) m u
+  inside-copied {k} e z h =
+      let h' = rw z at h in
+      let within = bytes-within f i k v e in
+      let size = length-take-le k (drop i f) (omega (arith, length-drop i f)) in
+      let to : n + k ≡ m = omega (arith, size, h'.place.1) in
+      inside-at refl to (sym h'.written) (inside-run k (inside-start f i n t (omega arith)) (omega (arith, size, h'.place.0)) (omega (arith, e)))
+
+pub ruleset written = (pairs-within, bytes-within, inside-quotes, inside-feed, inside-copied)
 
 -- from a head between quotes
-module _ (w : Bool) (d : Dialect) (f : Bytes) (p : Head) (text ends rows : List ℕ) (v : p.at < length f) (e₁ : p.form ≡ form_number quoted) (e₂ : p.held ≡ 0) (o : NoQuote d) where
+module _ (w : Bool) (d : Dialect) (f : Bytes) (p : Head) (b : Lists) (v : p.at < length f) (e₁ : p.form ≡ form_number quoted) (e₂ : p.held ≡ 0) (o : NoQuote d) where
   ends-any : (u : Bool) (n : ℕ) → ends_left w d (drop p.at f) quoted 0 n u ≡ ends_left w d (drop p.at f) quoted 0 n true
   ends-any u n = rw (drop-cons f p.at 0 v) (ends-byte w d (get_or f p.at 0) _ quoted 0 n u ∙ sym (ends-byte w d (get_or f p.at 0) _ quoted 0 n true))
 
   rows-any : (u : Bool) (n : ℕ) → rows_left w d (drop p.at f) quoted n u ≡ rows_left w d (drop p.at f) quoted n true
   rows-any u n = rw (drop-cons f p.at 0 v) (rows-byte w d (get_or f p.at 0) _ quoted n u ∙ sym (rows-byte w d (get_or f p.at 0) _ quoted n true))
 
-  module _ {i n : ℕ} {text' : Bytes} (g : Inside f p.at p.text text i n text') where
-    text_is : text_ahead d f p ≡ text_left d (drop p.at f) quoted 0
-    text_is = rw (e₁, e₂, form-back quoted)
+  -- the head at a place of the file and of the text
+  abbrev there : ℕ → ℕ → Head
+  there i n = record p { at = i; text = n; begun = true }
 
-    ends_are : ends_ahead w d f p ≡ ends_ahead w d f (between i n p)
+  module _ {i n : ℕ} {text' : Bytes} (g : Inside f p.at p.text b.text i n text') where
+    ends_are : ends_ahead w d f p ≡ ends_ahead w d f (there i n)
     ends_are = rw (e₁, e₂, form-back quoted) (ends-any p.begun p.text ∙ g.ends_on w d o)
 
-    rows_are : rows_ahead w d f p ≡ rows_ahead w d f (between i n p)
+    rows_are : rows_ahead w d f p ≡ rows_ahead w d f (there i n)
     rows_are = rw (e₁, form-back quoted) (rows-any p.begun p.ends ∙ g.rows_on w d o p.ends)
 
-    pub inside-wrote : Wrote w d f p text ends rows (between i n p) text' ends rows
+    pub inside-wrote : Wrote w d f p b (there i n) (record b { text = text' })
     inside-wrote =
         record {
           on = g.on;
           inside = λ l. g.within;
           held = omega (arith, g.on);
-          text_on = rw (form-back quoted) (grown-from text_is (g.text_on d o));
+          text_on = rw (e₁, e₂, form-back quoted) (g.text_on d o);
           ends_on = grown-none ends_are;
           rows_on = grown-none rows_are;
         }

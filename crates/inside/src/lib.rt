@@ -2,11 +2,9 @@
 
 #![tactic(auto)]
 
-ghost use Rattle.std.specs.Prelude.{◌≡◌, Bool, true, ℕ, ◌<◌, List, length};
+ghost use Rattle.std.specs.Prelude.{◌≡◌, Bool, ℕ, ◌<◌, List, IfSome, IfNone};
 ghost use Rattle.format.specs.Dialect.{Dialect};
-ghost use Rattle.steps.specs.Steps.{quoted};
-ghost use Rattle.steps.specs.Numbers.{form_number};
-ghost use Rattle.fill.specs.Walk.{Wrote, NoQuote, Inside, between};
+ghost use Rattle.fill.specs.Walk.{Wrote, NoQuote, Inside};
 
 use fill::Head;
 
@@ -20,73 +18,61 @@ struct Spot {
 // Writes what stands between quotes, up to a byte that is not content in every dialect or for which
 // there is no room: runs of bytes and LFs as they are, and one quote for each pair.
 pub fn pass_inside(file: &[u8], p: Head, text: &mut [u8]) -> Head
-    ensures { (w : Bool) (d : Dialect) → NoQuote d → (ends rows : List ℕ) → Wrote w d file.now p text.old ends rows result text.new ends rows }
+    ensures { (w : Bool) (d : Dialect) → NoQuote d → (ends rows : List ℕ) → Wrote w d file.now p (record { text = text.old; ends = ends; rows = rows }) result (record { text = text.new; ends = ends; rows = rows }) }
 {
-    if !is_inside(p, file.len()) {
+    if p.form != steps::QUOTED || p.held != 0 || file.len() <= p.at {
         return p;
     }
-    let mut i = p.at;
-    let mut n = p.text;
-    while i < file.len() {
-        let s = inside_more(file, i, text, n);
-        if s.at == i {
-            return quoted_at(p, s.at, s.text);
-        }
-        i = s.at;
-        n = s.text;
+    let mut here = Spot {
+        at: p.at,
+        text: p.text,
+    };
+    while let Some(next) = inside_more(file, here, text) {
+        here = next;
     }
-    quoted_at(p, i, n)
-}
-
-// Whether the walk is between quotes, before a byte.
-fn is_inside(p: Head, end: usize) -> bool
-    ensures { result ≡ true → (p.form ≡ form_number quoted) × (p.held ≡ 0) × (p.at < end) }
-{
-    (p.form == steps::QUOTED) & (p.held == 0) & (p.at < end)
-}
-
-// What stands at a place between quotes: pairs of quotes, an LF or a run of bytes. Where it is none of
-// these or has no room, the place stays.
-fn inside_more(file: &[u8], at: usize, text: &mut [u8], n: usize) -> Spot
-    requires { at < length file.now }
-    ensures { Inside file.now at n text.old result.at result.text text.new }
-{
-    if file[at] == 0x22 {
-        let q = runs::pair_run(file, at);
-        let m = fill::put_run(text, n, q, 0x22);
-        let k = m - n;
-        return Spot {
-            at: at + k + k,
-            text: m,
-        };
-    }
-    if file[at] == 0x0A {
-        let m = fill::put_run(text, n, 1, 0x0A);
-        return Spot {
-            at: at + (m - n),
-            text: m,
-        };
-    }
-    let k = runs::inner_run(file, at);
-    let m = fill::copied(file, at, k, text, n);
-    Spot {
-        at: at + (m - n),
-        text: m,
-    }
-}
-
-// Between quotes, at a place of the file and of the text.
-fn quoted_at(p: Head, at: usize, text: usize) -> Head
-    ensures { result ≡ between at text p }
-{
-    let begun = true;
     Head {
-        at,
-        form: steps::QUOTED,
-        held: 0,
-        text,
-        ends: p.ends,
-        rows: p.rows,
-        begun,
+        at: here.at,
+        text: here.text,
+        begun: true,
+        ..p
+    }
+}
+
+// Writes what stands at a place between quotes: pairs of quotes, an LF or a run of bytes; or nothing,
+// where it is none of these or has no room.
+#[tactic(auto, using(crate::proofs::Quoted::written))]
+fn inside_more(file: &[u8], from: Spot, text: &mut [u8]) -> Option<Spot>
+    ensures on { IfSome result (λ to. from.at < to.at) }
+    ensures written { IfSome result (λ to. Inside file.now from.at from.text text.old to.at to.text text.new) }
+    ensures unchanged { IfNone result (text.new ≡ text.old) }
+{
+    match *file.get(from.at)? {
+        b'"' => {
+            let pairs = runs::pair_run(file, from.at);
+            if pairs == 0 {
+                return None;
+            }
+            let text = fill::put_run(text, from.text, pairs, b'"')?;
+            Some(Spot {
+                at: from.at + 2 * pairs,
+                text,
+            })
+        }
+        b'\n' => {
+            let text = fill::put_run(text, from.text, 1, b'\n')?;
+            Some(Spot {
+                at: from.at + 1,
+                text,
+            })
+        }
+        _ => {
+            let run = runs::inner_run(file, from.at);
+            if run == 0 {
+                return None;
+            }
+            let to = from.at + run;
+            let text = fill::copied(text, from.text, &file[from.at..to])?;
+            Some(Spot { at: to, text })
+        }
     }
 }

@@ -6,15 +6,17 @@ use native.Mathlib.Numerals.{add-one}
 use mathlib.Core.Path.{◌≡◌, refl, sym, ap, subst, ◌∙◌}
 use mathlib.Core.Bool.{Bool, true, false, cond, ◌||◌, or-false, false≢true}
 use mathlib.Core.List.{List, [], ◌∷◌}
+use Rattle.std.proofs.Common.{None, Some}
 use lib.Dec.{T, eqb, leb}
 use lib.Count.{count_trailing_zeros}
 use lib.ListN.{length, get_or, take, drop, length-drop, drop_of_length-le}
 use lib.Seq.{drop-cons}
 use borrow.Author.Tests.{eqb-true, le-leb, lt-leb}
 use Rattle.format.specs.Table.{Bytes}
-use Rattle.format.specs.Dialect.{lf, Dialect, Class, delimiter, class_of}
+use Rattle.format.specs.Dialect.{lf, Dialect, delimiter, quote, class_of}
 use Rattle.format.proofs.Classes.{decide, class-delimiter, quote-beside}
 use Rattle.steps.specs.Steps.{Form, start, lead, bare, quoted, shut, tail, cr, nothing, put, hold, drop as drops, field_end, record_end, Act, refuse, go, step_of}
+use Rattle.steps.specs.declared.Stepped.{Stepped, TheVariants.Refuse, TheVariants.Quiet, TheVariants.Put, TheVariants.Hold, TheVariants.Drop, TheVariants.EndField, TheVariants.EndRecord}
 use Rattle.steps.specs.Model.{anchor, seen}
 use Rattle.steps.specs.Numbers.{form_number, form_of, coded}
 use Rattle.steps.proofs.Acts.{over, text-puts, inside-puts, quote-shuts, quote-pairs, over-delimiter}
@@ -27,11 +29,20 @@ use Rattle.words.proofs.Words.{unmarked, marks-own, marked-none, marked-some, bl
 use Rattle.runs.proofs.Bytes.{plain-class, inner-inside}
 use Rattle.runs.proofs.Runs.{run_holds, run-part, run_join, run-within, pairs_first, pairs-le}
 use Rattle.jump.specs.declared.Spot.{Spot}
-use Rattle.jump.specs.declared.Ended.{TheVariants.Fault, TheVariants.At}
-use Rattle.jump.specs.Pass.{form_behind, PairsEnd, no_pairs, pairs_end, RowEnd, row_form, Skips, stays, in_row, in_quotes, Ending, in_fault, ending}
+use Rattle.jump.specs.Pass.{PairsEnd, no_pairs, pairs_end, RowEnd, row_form, Skips, stays, in_row, in_quotes, Ending, in_fault, ending}
 
-below-seven : (j : Form) → form_number j < 7
-below-seven = elim [ start ↦ omega arith | lead ↦ omega arith | bare ↦ omega arith | quoted ↦ omega arith | shut ↦ omega arith | tail ↦ omega arith | cr ↦ omega arith ]
+-- a byte leads to a form inside its record
+abbrev pub Leads : Stepped → ℕ → Type 0
+Leads (Refuse n) k = ⊥
+Leads (Quiet j) k = j ≡ k
+Leads (Put j) k = j ≡ k
+Leads (Hold j) k = j ≡ k
+Leads (Drop j) k = j ≡ k
+Leads EndField k = form_number start ≡ k
+Leads EndRecord k = ⊥
+
+pub leads-to : {s t : Stepped} (n : ℕ) → s ≡ t → Leads s n → Leads t n
+leads-to n e l = subst (λ (s : Stepped). Leads s n) e l
 
 behind-one : (n : ℕ) → n ≡ n + 1 - 1
 behind-one n = omega arith
@@ -82,18 +93,18 @@ module _ (d : Dialect) (f : Bytes) (from : ℕ) where
       record { begun = omega arith; within = h; mark = []; at_cr = λ n. absurd (omega arith); same = ap (λ (k : Form). end_from d (drop from f) k []) (form-back start) }
 
   -- how the record ends, once that is known
-  pub faults : end_from d (drop from f) start [] ≡ faulty → Ending d f from Fault
+  pub faults : end_from d (drop from f) start [] ≡ faulty → Ending d f from None
   faults e = by (subst (Ends d (drop from f)) e (end_is d (drop from f)))
     where
-      by : Ends d (drop from f) faulty → Ending d f from Fault
+      by : Ends d (drop from f) faulty → Ending d f from None
       by (by_fault x y) = in_fault x y
 
   pub finds :
       {end next : ℕ} → end_from d (drop from f) start [] ≡ ended (drop end f) (drop next f) → from ≤ end → end ≤ next → next ≤ length f
-      → Ending d f from (At end next)
+      → Ending d f from (Some (record { at = end; next = next }))
   finds {end} {next} e h i j = by (subst (Ends d (drop from f)) e (end_is d (drop from f)))
     where
-      by : Ends d (drop from f) (ended (drop end f) (drop next f)) → Ending d f from (At end next)
+      by : Ends d (drop from f) (ended (drop end f) (drop next f)) → Ending d f from (Some (record { at = end; next = next }))
       by (by_line r l) = ending r l h i j
 
   -- at a byte
@@ -110,76 +121,76 @@ module _ (d : Dialect) (f : Bytes) (from : ℕ) where
           sym w.same
           ∙ (ap (λ (l : Bytes). end_from d l (form_of form) w.mark) (drop-cons f at 0 h) ∙ end-byte d (get_or f at 0) (drop (suc at) f) (form_of form) w.mark)
 
-      -- the act by the number of what it makes of the form
-      fault-act : (a : Act) → form_behind (coded a) ≡ 8 → after a ≡ faulty
-      fault-act (refuse n) e = refl
-      fault-act (go j nothing) e = absurd (omega (arith, e, below-seven j))
-      fault-act (go j put) e = absurd (omega (arith, e, below-seven j))
-      fault-act (go j hold) e = absurd (omega (arith, e, below-seven j))
-      fault-act (go j drops) e = absurd (omega (arith, e, below-seven j))
-      fault-act (go j field_end) e = absurd (omega (arith, e))
-      fault-act (go j record_end) e = absurd (omega (arith, e))
+      -- the act by what the code makes of it
+      refused : (a : Act) (n : ℕ) → Refuse n ≡ coded a → after a ≡ faulty
+      refused (refuse n) m e = refl
+      refused (go j nothing) m e = cc
+      refused (go j put) m e = cc
+      refused (go j hold) m e = cc
+      refused (go j drops) m e = cc
+      refused (go j field_end) m e = cc
+      refused (go j record_end) m e = cc
 
-      end-act : (a : Act) → form_behind (coded a) ≡ 7 → after a ≡ ended (seen (form_of form) (get_or f at 0 ∷ drop (suc at) f) w.mark) (drop (suc at) f)
-      end-act (refuse n) e = absurd (omega (arith, e))
-      end-act (go j nothing) e = absurd (omega (arith, e, below-seven j))
-      end-act (go j put) e = absurd (omega (arith, e, below-seven j))
-      end-act (go j hold) e = absurd (omega (arith, e, below-seven j))
-      end-act (go j drops) e = absurd (omega (arith, e, below-seven j))
-      end-act (go j field_end) e = absurd (omega (arith, e))
-      end-act (go j record_end) e = refl
+      ended-here : (a : Act) → EndRecord ≡ coded a → after a ≡ ended (seen (form_of form) (get_or f at 0 ∷ drop (suc at) f) w.mark) (drop (suc at) f)
+      ended-here (refuse n) e = cc
+      ended-here (go j nothing) e = cc
+      ended-here (go j put) e = cc
+      ended-here (go j hold) e = cc
+      ended-here (go j drops) e = cc
+      ended-here (go j field_end) e = cc
+      ended-here (go j record_end) e = refl
 
       abbrev Onward : ℕ → End → Type 0
       Onward n e = (q : Bytes) × (6 ≤ n → q ≡ get_or f at 0 ∷ drop (suc at) f) × (e ≡ end_from d (drop (suc at) f) (form_of n) q)
 
-      goes_on : (j : Form) (q : Bytes) → (6 ≤ form_number j → q ≡ get_or f at 0 ∷ drop (suc at) f) → Onward (form_number j) (end_from d (drop (suc at) f) j q)
-      goes_on j q h = (q, h, ap (λ (k : Form). end_from d (drop (suc at) f) k q) (sym (form-back j)))
+      goes_on : (j : Form) (q : Bytes) {n : ℕ} → form_number j ≡ n → (6 ≤ form_number j → q ≡ get_or f at 0 ∷ drop (suc at) f) → Onward n (end_from d (drop (suc at) f) j q)
+      goes_on j q e h = subst (λ (n : ℕ). Onward n (end_from d (drop (suc at) f) j q)) e (q, h, ap (λ (k : Form). end_from d (drop (suc at) f) k q) (sym (form-back j)))
 
-      on-act : (a : Act) → (form_behind (coded a) ≡ 8 → ⊥) → (form_behind (coded a) ≡ 7 → ⊥) → Onward (form_behind (coded a)) (after a)
-      on-act (refuse n) u v = absurd (u refl)
-      on-act (go j nothing) u v = goes_on j _ (anchor-cr (get_or f at 0 ∷ drop (suc at) f) w.mark (form_of form) j)
-      on-act (go j put) u v = goes_on j _ (anchor-cr (get_or f at 0 ∷ drop (suc at) f) w.mark (form_of form) j)
-      on-act (go j hold) u v = goes_on j _ (anchor-cr (get_or f at 0 ∷ drop (suc at) f) w.mark (form_of form) j)
-      on-act (go j drops) u v = goes_on j _ (anchor-cr (get_or f at 0 ∷ drop (suc at) f) w.mark (form_of form) j)
-      on-act (go j field_end) u v = goes_on start [] (λ l. absurd (omega arith))
-      on-act (go j record_end) u v = absurd (v refl)
+      leads-on : (a : Act) {n : ℕ} → Leads (coded a) n → Onward n (after a)
+      leads-on (refuse n) l = absurd l
+      leads-on (go j nothing) l = goes_on j _ l (anchor-cr (get_or f at 0 ∷ drop (suc at) f) w.mark (form_of form) j)
+      leads-on (go j put) l = goes_on j _ l (anchor-cr (get_or f at 0 ∷ drop (suc at) f) w.mark (form_of form) j)
+      leads-on (go j hold) l = goes_on j _ l (anchor-cr (get_or f at 0 ∷ drop (suc at) f) w.mark (form_of form) j)
+      leads-on (go j drops) l = goes_on j _ l (anchor-cr (get_or f at 0 ∷ drop (suc at) f) w.mark (form_of form) j)
+      leads-on (go j field_end) l = goes_on start [] l (λ l. absurd (omega arith))
+      leads-on (go j record_end) l = absurd l
 
-      module _ {n : ℕ} (e : n ≡ form_behind (coded act)) where
-        pub byte-faults : n ≡ 8 → Ending d f from Fault
-        byte-faults h = faults (next-byte ∙ fault-act act (sym e ∙ h))
+      pub byte-faults : {n : ℕ} → Refuse n ≡ coded act → Ending d f from None
+      byte-faults {n} e = faults (next-byte ∙ refused act n e)
 
-        ends_at : n ≡ 7 → end_from d (drop from f) start [] ≡ ended (seen (form_of form) (drop at f) w.mark) (drop (at + 1) f)
-        ends_at i = next-byte ∙ (end-act act (sym e ∙ i) ∙ (λ j. ended (seen (form_of form) (sym (drop-cons f at 0 h) j) w.mark) (drop (sym (add-one at) j) f)))
+      module _ (e : EndRecord ≡ coded act) where
+        ends_at : end_from d (drop from f) start [] ≡ ended (seen (form_of form) (drop at f) w.mark) (drop (at + 1) f)
+        ends_at = next-byte ∙ (ended-here act e ∙ (λ j. ended (seen (form_of form) (sym (drop-cons f at 0 h) j) w.mark) (drop (sym (add-one at) j) f)))
 
-        pub byte-ends : n ≡ 7 → form < 6 → Ending d f from (At at (at + 1))
-        byte-ends i l = finds (ends_at i ∙ ap (λ (x : Bool). ended (cond x w.mark (drop at f)) (drop (at + 1) f)) (cr-at form ∙ lt-leb 6 form l)) w.begun (omega arith) (omega arith)
+        pub byte-ends : form < 6 → Ending d f from (Some (record { at = at; next = at + 1 }))
+        byte-ends l = finds (ends_at ∙ ap (λ (x : Bool). ended (cond x w.mark (drop at f)) (drop (at + 1) f)) (cr-at form ∙ lt-leb 6 form l)) w.begun (omega arith) (omega arith)
 
-        pub byte-ends-cr : n ≡ 7 → 6 ≤ form → Ending d f from (At (at - 1) (at + 1))
-        byte-ends-cr i l =
+        pub byte-ends-cr : 6 ≤ form → Ending d f from (Some (record { at = at - 1; next = at + 1 }))
+        byte-ends-cr l =
             let (m, q) = w.at_cr l in
-            finds (ends_at i ∙ (ap (λ (x : Bool). ended (cond x w.mark (drop at f)) (drop (at + 1) f)) (cr-at form ∙ le-leb 6 form l) ∙ ap (λ (x : Bytes). ended x (drop (at + 1) f)) q))
+            finds (ends_at ∙ (ap (λ (x : Bool). ended (cond x w.mark (drop at f)) (drop (at + 1) f)) (cr-at form ∙ le-leb 6 form l) ∙ ap (λ (x : Bytes). ended x (drop (at + 1) f)) q))
             (omega arith) (omega arith) (omega arith)
 
-        pub byte-goes : (n ≡ 8 → ⊥) → (n ≡ 7 → ⊥) → Going (at + 1) n
-        byte-goes u v =
-            let (q, i, j) = on-act act (λ o. u (e ∙ o)) (λ o. v (e ∙ o)) in
-            record {
-              begun = omega (arith, w.begun);
-              within = omega arith;
-              mark = q;
-              at_cr = λ l. (omega (arith, w.begun), i (omega (arith, e)) ∙ (sym (drop-cons f at 0 h) ∙ ap (λ (m : ℕ). drop m f) (behind-one at)));
-              same = (λ z. end_from d (drop (add-one at z) f) (form_of (e z)) q) ∙ (sym j ∙ sym next-byte);
-            }
+      pub byte-goes : {n : ℕ} → Leads (coded act) n → Going (at + 1) n
+      byte-goes {n} l =
+          let (q, i, j) = leads-on act l in
+          record {
+            begun = omega (arith, w.begun);
+            within = omega arith;
+            mark = q;
+            at_cr = λ l. (omega (arith, w.begun), i l ∙ (sym (drop-cons f at 0 h) ∙ ap (λ (m : ℕ). drop m f) (behind-one at)));
+            same = (λ z. end_from d (drop (add-one at z) f) (form_of n) q) ∙ (sym j ∙ sym next-byte);
+          }
 
     -- at the file's end
     at_end : length f ≤ at → end_from d (drop from f) start [] ≡ cond (eqb form (form_number quoted) || leb (form_number cr) form) faulty (ended [] [])
     at_end h =
         sym w.same ∙ (ap (λ (l : Bytes). end_from d l (form_of form) w.mark) (drop_of_length-le f h) ∙ (end-end d (form_of form) w.mark ∙ end-number form))
 
-    pub end-faults : length f ≤ at → (eqb form (form_number quoted) || leb (form_number cr) form) ≡ true → Ending d f from Fault
+    pub end-faults : length f ≤ at → (eqb form (form_number quoted) || leb (form_number cr) form) ≡ true → Ending d f from None
     end-faults h e = faults (at_end h ∙ ap (λ (x : Bool). cond x faulty (ended [] [])) e)
 
-    pub end-ends : length f ≤ at → (eqb form (form_number quoted) || leb (form_number cr) form) ≡ false → Ending d f from (At at at)
+    pub end-ends : length f ≤ at → (eqb form (form_number quoted) || leb (form_number cr) form) ≡ false → Ending d f from (Some (record { at = at; next = at }))
     end-ends h e =
         let n = drop_of_length-le f h in
         finds (at_end h ∙ (ap (λ (x : Bool). cond x faulty (ended [] [])) e ∙ (λ i. ended (sym n i) (sym n i)))) w.begun (omega arith) w.within
@@ -190,32 +201,32 @@ module _ (d : Dialect) (f : Bytes) (from : ℕ) where
       (omega (arith, run-within p f at (suc k) w h), rw (add-zero at) at (run_holds p f at 0 (omega arith)), omega (arith, run-part p f at 1 (omega arith)))
 
   -- between quotes: the table leads from the form to itself
-  inner-keeps : (b : ℕ) → is_inner b ≡ true → form_number quoted ≡ form_behind (coded (step_of (d.allows lf) (form_of (form_number quoted)) (class_of d b)))
+  inner-keeps : (b : ℕ) → is_inner b ≡ true → Leads (coded (step_of (d.allows lf) (form_of (form_number quoted)) (class_of d b))) (form_number quoted)
   inner-keeps b e =
-      sym
-      ((λ i. form_behind (coded (step_of (d.allows lf) (form-back quoted i) (class_of d b))))
-      ∙ ap (λ (a : Act). form_behind (coded a)) (inside-puts (d.allows lf) (class_of d b) (inner-inside d b e)))
+      subst (λ (k : Form). Leads (coded (step_of (d.allows lf) k (class_of d b))) (form_number quoted)) (sym (form-back quoted))
+      (subst (λ (a : Act). Leads (coded a) (form_number quoted)) (sym (inside-puts (d.allows lf) (class_of d b) (inner-inside d b e))) refl)
 
   inner-on : {at : ℕ} (k : ℕ) → Going at (form_number quoted) → k ≤ run is_inner (drop at f) → Going (at + k) (form_number quoted)
   inner-on {at} zero w h = subst (λ (m : ℕ). Going m (form_number quoted)) (sym (add-zero at)) w
   inner-on {at} (suc k) w h =
       let (i, b, l) = first is_inner at k w.within h in
-      let v = byte-goes w i (inner-keeps (get_or f at 0) b) (λ e. omega (arith, e)) (λ e. omega (arith, e)) in
+      let v = byte-goes w i (inner-keeps (get_or f at 0) b) in
       subst (λ (m : ℕ). Going m (form_number quoted)) (one_more at k) (inner-on {at = at + 1} k v l)
 
   -- and over a pair of quotes, in two steps, too
   module _ (beside : d.delimiter_byte ≡ 0x22 → ⊥) where
-    quote-shuts-it : (b : ℕ) → b ≡ 0x22 → form_number shut ≡ form_behind (coded (step_of (d.allows lf) (form_of (form_number quoted)) (class_of d b)))
-    quote-shuts-it b e =
-        sym
-        ((λ i. form_behind (coded (step_of (d.allows lf) (form-back quoted i) ((ap (class_of d) e ∙ quote-beside d beside) i))))
-        ∙ ap (λ (a : Act). form_behind (coded a)) (quote-shuts (d.allows lf)))
+    quote-class : (b : ℕ) → b ≡ 0x22 → class_of d b ≡ quote
+    quote-class b e = ap (class_of d) e ∙ quote-beside d beside
 
-    quote-opens-it : (b : ℕ) → b ≡ 0x22 → form_number quoted ≡ form_behind (coded (step_of (d.allows lf) (form_of (form_number shut)) (class_of d b)))
+    quote-shuts-it : (b : ℕ) → b ≡ 0x22 → Leads (coded (step_of (d.allows lf) (form_of (form_number quoted)) (class_of d b))) (form_number shut)
+    quote-shuts-it b e =
+        subst (λ (a : Act). Leads (coded a) (form_number shut))
+        (sym ((λ i. step_of (d.allows lf) (form-back quoted i) (quote-class b e i)) ∙ quote-shuts (d.allows lf))) refl
+
+    quote-opens-it : (b : ℕ) → b ≡ 0x22 → Leads (coded (step_of (d.allows lf) (form_of (form_number shut)) (class_of d b))) (form_number quoted)
     quote-opens-it b e =
-        sym
-        ((λ i. form_behind (coded (step_of (d.allows lf) (form-back shut i) ((ap (class_of d) e ∙ quote-beside d beside) i))))
-        ∙ ap (λ (a : Act). form_behind (coded a)) (quote-pairs (d.allows lf)))
+        subst (λ (a : Act). Leads (coded a) (form_number quoted))
+        (sym ((λ i. step_of (d.allows lf) (form-back shut i) (quote-class b e i)) ∙ quote-pairs (d.allows lf))) refl
 
     first-pair :
         (at k : ℕ) → at ≤ length f → suc k ≤ pairs (drop at f)
@@ -231,8 +242,8 @@ module _ (d : Dialect) (f : Bytes) (from : ℕ) where
     pairs-on {at} zero w h = subst (λ (m : ℕ). Going m (form_number quoted)) (no_more at) w
     pairs-on {at} (suc k) w h =
         let (l, x, y, z) = first-pair at k w.within h in
-        let v = byte-goes w (omega (arith, l)) (quote-shuts-it (get_or f at 0) x) (λ e. omega (arith, e)) (λ e. omega (arith, e)) in
-        let u = byte-goes v l (quote-opens-it (get_or f (at + 1) 0) y) (λ e. omega (arith, e)) (λ e. omega (arith, e)) in
+        let v = byte-goes w (omega (arith, l)) (quote-shuts-it (get_or f at 0) x) in
+        let u = byte-goes v l (quote-opens-it (get_or f (at + 1) 0) y) in
         subst (λ (m : ℕ). Going m (form_number quoted)) (two-more at k) (pairs-on {at = at + 1 + 1} k u z)
 
   pairs-go : {at to : ℕ} → Going at (form_number quoted) → PairsEnd f d.delimiter_byte at to → Going to (form_number quoted)
@@ -242,26 +253,27 @@ module _ (d : Dialect) (f : Bytes) (from : ℕ) where
   -- in rows of bare fields: it leads from where no quote has come to the start of a field, or into a bare one
   row-byte :
       (b form : ℕ) → form ≤ form_number bare → is_row d b ≡ true
-      → row_form d.delimiter_byte b ≡ form_behind (coded (step_of (d.allows lf) (form_of form) (class_of d b)))
+      → Leads (coded (step_of (d.allows lf) (form_of form) (class_of d b))) (row_form d.delimiter_byte b)
   row-byte b form h e = by (eqb b d.delimiter_byte) refl e
     where
       k : leb (form_number (form_of form)) (form_number bare) ≡ true
       k = le-leb (form_number (form_of form)) 2 (omega (arith, h, form-number form (omega (arith, h))))
 
-      by : (x : Bool) → eqb b d.delimiter_byte ≡ x → (is_plain d b || x) ≡ true → cond x (form_number start) (form_number bare) ≡ form_behind (coded (step_of (d.allows lf) (form_of form) (class_of d b)))
+      by : (x : Bool) → eqb b d.delimiter_byte ≡ x → (is_plain d b || x) ≡ true → Leads (coded (step_of (d.allows lf) (form_of form) (class_of d b))) (cond x (form_number start) (form_number bare))
       by true i e =
           let q : class_of d b ≡ delimiter = ap (class_of d) (eqb-true b d.delimiter_byte i) ∙ class-delimiter d in
-          sym (ap (λ (x : Class). form_behind (coded (step_of (d.allows lf) (form_of form) x))) q ∙ ap (λ (a : Act). form_behind (coded a)) (over-delimiter (d.allows lf) (form_of form) (open-over (form_of form) k)))
+          subst (λ (a : Act). Leads (coded a) (form_number start))
+          (sym (ap (step_of (d.allows lf) (form_of form)) q ∙ over-delimiter (d.allows lf) (form_of form) (open-over (form_of form) k))) refl
       by false i e =
           let q = plain-class d b (sym (or-false (is_plain d b)) ∙ e) in
-          sym (ap (λ (x : Class). form_behind (coded (step_of (d.allows lf) (form_of form) x))) q ∙ ap (λ (a : Act). form_behind (coded a)) (text-puts (d.allows lf) (form_of form) k))
+          subst (λ (a : Act). Leads (coded a) (form_number bare))
+          (sym (ap (step_of (d.allows lf) (form_of form)) q ∙ text-puts (d.allows lf) (form_of form) k)) refl
 
   row_one :
       {at form : ℕ} → Going at form → form ≤ form_number bare → 1 ≤ run (is_row d) (drop at f) → Going (at + 1) (row_form d.delimiter_byte (get_or f at 0))
   row_one {at} {form} w h l =
       let (i, b, r) = first (is_row d) at 0 w.within l in
-      let s = row_small d.delimiter_byte (get_or f at 0) in
-      byte-goes w i (row-byte (get_or f at 0) form h b) (λ o. omega (arith, o, s)) (λ o. omega (arith, o, s))
+      byte-goes w i (row-byte (get_or f at 0) form h b)
 
   row-on :
       {at form : ℕ} (k : ℕ) → Going at form → form ≤ form_number bare → suc k ≤ run (is_row d) (drop at f) → (to : ℕ) → to ≡ at + suc k

@@ -1,8 +1,11 @@
 -- What building an index promises, and asking for a record by one.
-use Rattle.std.specs.Prelude.{ℕ, ◌-◌, ◌/◌, ◌%◌, ◌≤◌, ◌<◌, List, length, get_or, take, drop}
+use Rattle.std.specs.Prelude.{ℕ, Result, Ok, Err, ◌-◌, ◌/◌, ◌%◌, ◌≤◌, ◌<◌, List, length, get_or, take, drop}
 use Rattle.format.specs.declared.Place.{Place}
 use Rattle.format.specs.declared.Indexed.{Indexed}
 use Rattle.format.specs.declared.Jumped.{Jumped}
+use Rattle.format.specs.declared.Refusal.{Refusal}
+use Rattle.format.specs.declared.ReadError.{ReadError}
+use Rattle.format.specs.Meant.{number_of}
 use Rattle.format.specs.Table.{Bytes, Content, Table}
 use Rattle.format.specs.Dialect.{Dialect, dialect, Valid}
 use Rattle.format.specs.House.{file_limit}
@@ -11,6 +14,7 @@ use Rattle.format.specs.Reading.{Accepted, Refused}
 use Rattle.format.specs.Walk.{RecordAt, NoRecord, FaultBefore, index_step, Index, Usable}
 use Rattle.format.specs.Answer.{indexed_by, unindexed, lies_at, lies_nowhere}
 use Rattle.format.specs.Filling.{over}
+use Rattle.jump.specs.declared.Part.{Part}
 
 -- `IndexOutcome b sum f index a index'`: an index of the file f, in the dialect of two bytes, built in a lent buffer, is answered by a, and the buffer is then the
 -- last. Where the file is refused or there is too little room it is as it was.
@@ -20,6 +24,16 @@ pub data IndexOutcome (b sum : ℕ) (f : Bytes) (index : List ℕ) : Indexed →
       → Accepted b sum f t r → Index (dialect b sum) f es → length index < length es → IndexOutcome b sum f index (unindexed 19 nowhere) index
   built : {t : Table} {r : ℕ} {es : List ℕ}
       → Accepted b sum f t r → Index (dialect b sum) f es → length es ≤ length index → IndexOutcome b sum f index (indexed_by (length es)) (over es index)
+
+-- what is told of an index
+abbrev pub indexed_from : Result ℕ ReadError → Indexed
+indexed_from (Ok n) = indexed_by n
+indexed_from (Err e) = unindexed e.number e.place
+
+-- what is told of where a record lies
+abbrev pub lies : Result Part Refusal → Jumped
+lies (Ok p) = lies_at p.start.0 p.length
+lies (Err r) = lies_nowhere (number_of r)
 
 -- what a walk finds from a place g of the file f on, which passes k records: 20 for a fault before the next one has ended, 18 where there is none, or where it lies
 pub data WalkOutcome (d : Dialect) (f g : Bytes) (k : ℕ) : Jumped → Type 0 where

@@ -1,5 +1,5 @@
 -- What passing records of a file promises, one and many; a place is an offset.
-use Rattle.std.specs.Prelude.{ℕ, ◌+◌, ◌*◌, ◌-◌, ◌≤◌, ◌<◌, ◌≡◌, Bool, cond, List, eqb, length, get_or, drop}
+use Rattle.std.specs.Prelude.{ℕ, ◌+◌, ◌*◌, ◌-◌, ◌≤◌, ◌<◌, ◌≡◌, Bool, cond, Option, None, Some, List, eqb, length, get_or, drop}
 use Rattle.format.specs.Table.{Bytes, Content, Table}
 use Rattle.format.specs.Dialect.{Dialect}
 use Rattle.format.specs.Grammar.{Record}
@@ -7,22 +7,10 @@ use Rattle.format.specs.Refusal.{LineEnd, Fields, Records}
 use Rattle.format.specs.Walk.{Holds, FieldFault, FaultBefore}
 use Rattle.runs.specs.Runs.{run, is_inner, pairs}
 use Rattle.words.specs.Words.{Marks, is_row}
-use Rattle.steps.specs.declared.Stepped.{Stepped, TheVariants.Refuse, TheVariants.Quiet, TheVariants.Put, TheVariants.Hold, TheVariants.Drop, TheVariants.EndField, TheVariants.EndRecord}
 use Rattle.steps.specs.Steps.{start, bare, quoted}
 use Rattle.steps.specs.Numbers.{form_number}
 use Rattle.jump.specs.declared.Spot.{Spot}
-use Rattle.jump.specs.declared.Ended.{Ended, TheVariants.Fault, TheVariants.At}
-use Rattle.jump.specs.declared.Passed.{Passed, TheVariants.Fault as Faulty, TheVariants.To}
-
--- what a byte's step makes of the form: the next one, 7 where it ends the record, 8 where it is a fault
-abbrev pub form_behind : Stepped → ℕ
-form_behind (Refuse n) = 8
-form_behind (Quiet k) = k
-form_behind (Put k) = k
-form_behind (Hold k) = k
-form_behind (Drop k) = k
-form_behind EndField = form_number start
-form_behind EndRecord = 7
+use Rattle.jump.specs.declared.RecordEnd.{RecordEnd}
 
 -- where bytes that are not marked end, from a place on: at another, or further
 pub record RowEnd (t : List Bool) (f : Bytes) (from to : ℕ) : Type 0 where
@@ -48,14 +36,14 @@ pub data Skips (d : Dialect) (f : Bytes) (form at : ℕ) : Spot → Type 0 where
   in_quotes : {to : ℕ} → form ≡ form_number quoted → PairsEnd f d.delimiter_byte (at + run is_inner (drop at f)) to → Skips d f form at (record { at = to; form = form })
 
 -- the record that begins at a place: it has a fault; or it ends at a place, and behind its line break is another
-pub data Ending (d : Dialect) (f : Bytes) (from : ℕ) : Ended → Type 0 where
-  in_fault : {n : ℕ} {g found named : Bytes} {cs : List Content} → Fields d (drop from f) cs g → FieldFault d n g found named → Ending d f from Fault
+pub data Ending (d : Dialect) (f : Bytes) (from : ℕ) : Option RecordEnd → Type 0 where
+  in_fault : {n : ℕ} {g found named : Bytes} {cs : List Content} → Fields d (drop from f) cs g → FieldFault d n g found named → Ending d f from None
   ending : {end next : ℕ} {cs : List Content}
       → Record d (drop from f) cs (drop end f) → LineEnd d (drop end f) (drop next f) → from ≤ end → end ≤ next → next ≤ length f
-      → Ending d f from (At end next)
+      → Ending d f from (Some (record { at = end; next = next }))
 
 -- n records passed from a place on: there is a fault before the next has ended; or the next begins at a place; or the file has ended
-pub data Passing (d : Dialect) (f : Bytes) (from n : ℕ) : Passed → Type 0 where
-  in_fault : FaultBefore d (drop from f) n → Passing d f from n Faulty
-  through : {to : ℕ} {t : Table} → Records d (drop from f) t (drop to f) → length t ≡ n → to < length f → Passing d f from n (To to)
-  out : {to : ℕ} {t : Table} → Holds d (drop from f) t → length t ≤ n → to ≡ length f → Passing d f from n (To to)
+pub data Passing (d : Dialect) (f : Bytes) (from n : ℕ) : Option ℕ → Type 0 where
+  in_fault : FaultBefore d (drop from f) n → Passing d f from n None
+  through : {to : ℕ} {t : Table} → Records d (drop from f) t (drop to f) → length t ≡ n → to < length f → Passing d f from n (Some to)
+  out : {to : ℕ} {t : Table} → Holds d (drop from f) t → length t ≤ n → to ≡ length f → Passing d f from n (Some to)

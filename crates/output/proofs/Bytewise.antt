@@ -1,18 +1,19 @@
 -- A call, one byte after the other; and what the code of a byte computes.
-use Prim.Native.Nat.{ℕ, ◌+◌, ◌-◌, ◌≤◌, min}
+use Prim.Native.Nat.{ℕ, ◌≤◌, min}
 use native.Mathlib.Omega.{arith}
 use mathlib.Core.Path.{◌≡◌, refl}
 use mathlib.Core.Bool.{Bool, true, false, cond, ◌&&◌}
 use mathlib.Core.List.{[], ◌∷◌, ◌++◌}
-use lib.Dec.{leb, ltb}
+use lib.Dec.{leb}
 use lib.ListN.{length, replicate}
-use borrow.Author.Tests.{leb-true, leb-false, le-leb, lt-ltb, le-ltb}
+use borrow.Author.Tests.{leb-true, le-leb}
 use Rattle.format.specs.Table.{Bytes}
 use Rattle.state.specs.declared.Check.{Check}
 use Rattle.state.specs.Check.{fed}
 use Rattle.output.specs.declared.Stream.{Stream}
 use Rattle.output.specs.Out.{Out}
-use Rattle.output.specs.Stream.{shown, is_over, puts_text, ends_field, ends_record, byte_left, when, blanks_due, due, Room, fits, left, short_of, idle, onward, showing, stuck, taking, streamed}
+use Rattle.output.specs.declared.Room.{Room}
+use Rattle.output.specs.Stream.{shown, is_over, puts_text, ends_field, ends_record, byte_left, when, blanks_due, due, fits, left, short_of, idle, onward, showing, stuck, taking, streamed}
 
 module _ (s : Stream) (r : Room) where
   pub streamed-none : streamed s [] r ≡ idle s
@@ -103,11 +104,3 @@ fits-parts o r = by (leb (length o.text) r.text) refl (leb (length o.ends) r.end
     by true p true q false u h = let i : ◌≡◌ {A = ℕ} 0 1 = cc in absurd (omega arith)
     by true p false q z u h = let i : ◌≡◌ {A = ℕ} 0 1 = cc in absurd (omega arith)
     by false p y q z u h = let i : ◌≡◌ {A = ℕ} 0 1 = cc in absurd (omega arith)
-
--- the code's test of the content limit
-pub left_is : (h c k : ℕ) → ltb h (k - c) ≡ leb (c + h + 1) k
-left_is h c k = by (leb (c + h + 1) k) refl
-  where
-    by : (y : Bool) → leb (c + h + 1) k ≡ y → ltb h (k - c) ≡ y
-    by true e = lt-ltb h (k - c) (omega (arith, leb-true (c + h + 1) k e))
-    by false e = le-ltb h (k - c) (omega (arith, leb-false (c + h + 1) k e))

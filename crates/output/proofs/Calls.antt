@@ -19,7 +19,8 @@ use Rattle.state.proofs.Parts.{started-is}
 use Rattle.output.specs.declared.Stream.{Stream}
 use Rattle.output.specs.Out.{Out, nothing, then, out_of, CameOut, came_out}
 use Rattle.format.specs.SoFar.{so_far}
-use Rattle.output.specs.Stream.{shown, is_over, puts_text, blanks_due, due, Room, fits, left, Called, idle, onward, stuck, taking, streamed}
+use Rattle.output.specs.declared.Room.{Room}
+use Rattle.output.specs.Stream.{shown, is_over, puts_text, blanks_due, due, fits, left, Called, idle, onward, stuck, taking, streamed}
 use Rattle.output.specs.Promises.{Awaits, nothing_early, content_next, Stands, going, refused}
 use Rattle.format.proofs.Even.{even-none}
 use Rattle.steps.proofs.Forms.{at_start, at-begun}

@@ -2,11 +2,12 @@
 use Prim.Native.Nat.{ℕ}
 use native.Mathlib.Omega.{arith}
 use mathlib.Core.Path.{◌≡◌, refl, sym, ap, ◌∙◌}
-use mathlib.Core.Bool.{Bool, true, false, not, ◌&&◌, ◌||◌, true≢false}
+use mathlib.Core.Bool.{Bool, true, false, not, ◌&&◌}
+use mathlib.Core.Logic.{◌⊎◌, inl, inr}
 use mathlib.Core.List.{List, [], ◌∷◌}
 use lib.Dec.{eqb}
 use lib.ListN.{length, set}
-use borrow.Author.Tests.{le-leb, lt-leb}
+use borrow.Author.Tests.{le-leb, lt-leb, ne_eqb}
 use Rattle.format.specs.declared.Answer.{Answer}
 use Rattle.format.specs.Filling.{over}
 use Rattle.state.specs.declared.Check.{Check}
@@ -15,7 +16,8 @@ use Rattle.pieces.specs.Asked.{asked}
 use Rattle.output.specs.declared.Stream.{Stream}
 use Rattle.output.specs.declared.Streamed.{Streamed}
 use Rattle.output.specs.Out.{nothing}
-use Rattle.output.specs.Stream.{is_over, idle, Room, fits, short_of, Called, onward, stream_started, close_due, closed, answer_of, closed_by}
+use Rattle.output.specs.declared.Room.{Room}
+use Rattle.output.specs.Stream.{is_over, idle, fits, short_of, Called, onward, stream_started, close_due, closed, answer_of, closed_by}
 use Rattle.output.specs.Promises.{Into, room_of, Started, Closed}
 use Rattle.output.proofs.Meaning.{so-started, so-closed}
 
@@ -23,17 +25,6 @@ use Rattle.output.proofs.Meaning.{so-started, so-closed}
 pub start-onward : {b sum : ℕ} {c : Check} {s : Stream} → c ≡ started b sum → s ≡ onward c → Started b sum s
 unfolding stream_started
 start-onward p q = so-started (q ∙ ap onward p)
-
--- the close: a refusal or no open record leaves nothing to put out
-declines : (y z : Bool) → (not y || z) ≡ true → (y && not z) ≡ false
-declines true true h = refl
-declines true false h = absurd (true≢false (sym h))
-declines false z h = refl
-
-accepts : (y z : Bool) → (not y || z) ≡ false → (y && not z) ≡ true
-accepts true true h = absurd (true≢false h)
-accepts true false h = refl
-accepts false z h = absurd (true≢false h)
 
 abbrev pub ended : Stream → Stream
 ended s = record { check = s.check; early = s.early; closed = 1 }
@@ -48,20 +39,25 @@ module _ (s : Stream) (r : Room) where
   closed-over h = rw h
 
   module _ (a : Answer) (e : a ≡ asked s.check) (h : is_over s ≡ false) where
-    closed_none : (not (eqb a.refusal 0) || eqb s.check.begun 0) ≡ true → closed s r ≡ quiet (ended s) 0
+    -- a refusal or no open record leaves nothing to put out
+    closed_none : (a.refusal ≡ 0 → ⊥) ⊎ ((a.refusal ≡ 0) × (s.check.begun ≡ 0)) → closed s r ≡ quiet (ended s) 0
     unfolding closed close_due fits
     closed_none i =
-        rw (h, ← e, declines _ _ i, le-leb 0 r.text (omega arith), le-leb 0 r.ends (omega arith), le-leb 0 r.rows (omega arith))
+        rw (h, ← e, none i, le-leb 0 r.text (omega arith), le-leb 0 r.ends (omega arith), le-leb 0 r.rows (omega arith))
+      where
+        none : (a.refusal ≡ 0 → ⊥) ⊎ ((a.refusal ≡ 0) × (s.check.begun ≡ 0)) → (eqb a.refusal 0 && not (eqb s.check.begun 0)) ≡ false
+        none (inl u) = rw (ne_eqb a.refusal 0 u)
+        none (inr b) = rw (b.0, b.1)
 
-    module _ (i : (not (eqb a.refusal 0) || eqb s.check.begun 0) ≡ false) where
+    module _ (i : a.refusal ≡ 0) (b : s.check.begun ≡ 0 → ⊥) where
       closed-no-ends : r.ends ≡ 0 → closed s r ≡ quiet s 12
       unfolding closed close_due fits short_of
-      closed-no-ends j = rw (h, ← e, accepts _ _ i, le-leb 0 r.text (omega arith), lt-leb 1 r.ends (omega arith))
+      closed-no-ends j = rw (h, ← e, i, ne_eqb s.check.begun 0 b, le-leb 0 r.text (omega arith), lt-leb 1 r.ends (omega arith))
 
       closed-no-rows : (r.ends ≡ 0 → ⊥) → r.rows ≡ 0 → closed s r ≡ quiet s 13
       unfolding closed close_due fits short_of
       closed-no-rows j k =
-          rw (h, ← e, accepts _ _ i, le-leb 0 r.text (omega arith), le-leb 1 r.ends (omega arith), lt-leb 1 r.rows (omega arith))
+          rw (h, ← e, i, ne_eqb s.check.begun 0 b, le-leb 0 r.text (omega arith), le-leb 1 r.ends (omega arith), lt-leb 1 r.rows (omega arith))
 
       closed-full :
           (r.ends ≡ 0 → ⊥) → (r.rows ≡ 0 → ⊥)
@@ -69,7 +65,7 @@ module _ (s : Stream) (r : Room) where
           ≡ record { taken = 0; out = record { text = []; ends = a.totals.text ∷ []; rows = a.totals.fields.0 ∷ [] }; short = 0; state = ended s }
       unfolding closed close_due fits
       closed-full j k =
-          rw (h, ← e, accepts _ _ i, le-leb 0 r.text (omega arith), le-leb 1 r.ends (omega arith), le-leb 1 r.rows (omega arith))
+          rw (h, ← e, i, ne_eqb s.check.begun 0 b, le-leb 0 r.text (omega arith), le-leb 1 r.ends (omega arith), le-leb 1 r.rows (omega arith))
 
 -- what the code tells of a call
 abbrev pub told : Stream → ℕ → ℕ → ℕ → Streamed
@@ -108,22 +104,20 @@ module _ (s : Stream) (ends rows : List ℕ) {r : Streamed} where
   close-over h q = so-closed (quiet-into s 0 (closed-over s (room_of [] ends rows) h) q)
 
   module _ (a : Answer) (e : a ≡ asked s.check) (h : is_over s ≡ false) where
-    pub close-none :
-        {u : Stream} → (not (eqb a.refusal 0) || eqb s.check.begun 0) ≡ true → u ≡ ended s → r ≡ told u 0 0 0 → Closed s ends rows r ends rows
-    close-none i p q =
-        so-closed (quiet-into (ended s) 0 (closed_none s (room_of [] ends rows) a e h i) (q ∙ ap (λ (x : Stream). told x 0 0 0) p))
+    pub close-none : (a.refusal ≡ 0 → ⊥) ⊎ ((a.refusal ≡ 0) × (s.check.begun ≡ 0)) → r ≡ told (ended s) 0 0 0 → Closed s ends rows r ends rows
+    close-none i q = so-closed (quiet-into (ended s) 0 (closed_none s (room_of [] ends rows) a e h i) q)
 
-    module _ (i : (not (eqb a.refusal 0) || eqb s.check.begun 0) ≡ false) where
+    module _ (i : a.refusal ≡ 0) (b : s.check.begun ≡ 0 → ⊥) where
       pub close-no-ends : length ends ≡ 0 → r ≡ told s 0 0 12 → Closed s ends rows r ends rows
-      close-no-ends j q = so-closed (quiet-into s 12 (closed-no-ends s (room_of [] ends rows) a e h i j) q)
+      close-no-ends j q = so-closed (quiet-into s 12 (closed-no-ends s (room_of [] ends rows) a e h i b j) q)
 
       pub close-no-rows : (length ends ≡ 0 → ⊥) → length rows ≡ 0 → r ≡ told s 0 0 13 → Closed s ends rows r ends rows
-      close-no-rows j k q = so-closed (quiet-into s 13 (closed-no-rows s (room_of [] ends rows) a e h i j k) q)
+      close-no-rows j k q = so-closed (quiet-into s 13 (closed-no-rows s (room_of [] ends rows) a e h i b j k) q)
 
       pub close-full :
-          {u : Stream} → (length ends ≡ 0 → ⊥) → (length rows ≡ 0 → ⊥) → u ≡ ended s → r ≡ told u 1 1 0
+          (length ends ≡ 0 → ⊥) → (length rows ≡ 0 → ⊥) → r ≡ told (ended s) 1 1 0
           → Closed s ends rows r (set ends 0 a.totals.text) (set rows 0 a.totals.fields.0)
-      close-full j k p q =
+      close-full j k q =
           so-closed
-          (told-into (ended s) 0 (a.totals.text ∷ []) (a.totals.fields.0 ∷ []) (closed-full s (room_of [] ends rows) a e h i j k)
-          (q ∙ ap (λ (x : Stream). told x 1 1 0) p) (set_front ends a.totals.text j) (set_front rows a.totals.fields.0 k))
+          (told-into (ended s) 0 (a.totals.text ∷ []) (a.totals.fields.0 ∷ []) (closed-full s (room_of [] ends rows) a e h i b j k) q
+          (set_front ends a.totals.text j) (set_front rows a.totals.fields.0 k))

@@ -17,7 +17,8 @@ use Rattle.state.specs.Check.{fed}
 use Rattle.state.proofs.Byte.{FieldEnds, RecordEnds, Does, act_of, fed-does}
 use Rattle.output.specs.declared.Stream.{Stream}
 use Rattle.output.specs.Out.{Out}
-use Rattle.output.specs.Stream.{shown, is_over, puts_text, due, Room, fits, left, Called, onward, streamed, left_of}
+use Rattle.output.specs.declared.Room.{Room}
+use Rattle.output.specs.Stream.{shown, is_over, puts_text, due, fits, left, Called, onward, streamed, left_of}
 use Rattle.output.specs.Promises.{Awaits, nothing_early, content_next}
 use Rattle.output.proofs.Step.{clear}
 use Rattle.output.proofs.Meaning.{shown-before}

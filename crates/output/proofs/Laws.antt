@@ -26,7 +26,8 @@ use Rattle.state.proofs.Moves.{fed-none}
 use Rattle.state.proofs.Parts.{started-is}
 use Rattle.output.specs.declared.Stream.{Stream}
 use Rattle.output.specs.Out.{Out, nothing, then, CameOut}
-use Rattle.output.specs.Stream.{shown, is_over, Room, fits, Called, stream_started, close_due, closed, answer_of}
+use Rattle.output.specs.declared.Room.{Room}
+use Rattle.output.specs.Stream.{shown, is_over, fits, Called, stream_started, close_due, closed, answer_of}
 use Rattle.output.specs.Promises.{Awaits, nothing_early, whole_out, Stands, no_dialect, going, refused, declined, accepted}
 use Rattle.output.proofs.Step.{Standing, not-shown, then-nothing}
 use Rattle.output.proofs.Close.{closing-out}

@@ -1,5 +1,5 @@
 -- A state that stands for a dialect, bytes taken and what is out goes to such a state; and any two outcomes of a call coincide.
-use Prim.Native.Nat.{ℕ, ◌+◌}
+use Prim.Native.Nat.{ℕ}
 use native.Mathlib.Omega.{arith}
 use mathlib.Core.Path.{◌≡◌, refl, sym, subst, ◌∙◌}
 use mathlib.Core.Bool.{Bool, true, false, or-true}

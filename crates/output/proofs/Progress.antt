@@ -17,7 +17,8 @@ use Rattle.state.specs.Check.{fed}
 use Rattle.pieces.specs.Asked.{asked}
 use Rattle.output.specs.declared.Stream.{Stream}
 use Rattle.output.specs.Out.{Out, nothing}
-use Rattle.output.specs.Stream.{shown, is_over, puts_text, ends_field, ends_record, byte_left, when, blanks_due, due, Room, fits, left, short_of, Called, onward, taking, streamed, close_due, closed}
+use Rattle.output.specs.declared.Room.{Room}
+use Rattle.output.specs.Stream.{shown, is_over, puts_text, ends_field, ends_record, byte_left, when, blanks_due, due, fits, left, short_of, Called, onward, taking, streamed, close_due, closed}
 use Rattle.output.proofs.Bytewise.{shown-over, fits-parts}
 
 one-most : (x : Bool) (n : ℕ) → length (when x n) ≤ 1

@@ -30,7 +30,8 @@ use Rattle.pieces.proofs.Stands.{one_answer}
 use Rattle.output.specs.declared.Stream.{Stream}
 use Rattle.output.specs.declared.Streamed.{Streamed}
 use Rattle.output.specs.Out.{Out, nothing, out_of, Contents}
-use Rattle.output.specs.Stream.{shown, is_over, Room, fits, Called, close_due, closed, answer_of, closed_by}
+use Rattle.output.specs.declared.Room.{Room}
+use Rattle.output.specs.Stream.{shown, is_over, fits, Called, close_due, closed, answer_of, closed_by}
 use Rattle.output.specs.Promises.{Awaits, nothing_early, content_next, whole_out, Stands, no_dialect, going, refused, declined, accepted, Into}
 use Rattle.output.proofs.Step.{Standing, standing, clear}
 use Rattle.output.proofs.Calls.{Inv, inv-going, inv-over, going-over, awaits-none}

@@ -10,8 +10,9 @@ use Rattle.state.specs.Check.{started, fed, fed_all}
 use Rattle.format.specs.Filling.{over}
 use Rattle.output.specs.declared.Stream.{Stream}
 use Rattle.output.specs.declared.Streamed.{Streamed}
+use Rattle.output.specs.declared.Room.{Room}
 use Rattle.output.specs.Out.{Out, nothing, then, CameOut}
-use Rattle.output.specs.Stream.{shown, puts_text, stream_started, Room, Called, streamed, closed, answer_of, closed_by}
+use Rattle.output.specs.Stream.{shown, puts_text, stream_started, Called, streamed, closed, answer_of, closed_by}
 
 -- Blanks are out before it is known that they stay only where the byte that shows it comes next: it is content, and shows no refusal.
 pub data Awaits (c : Check) : ℕ → Bytes → Type 0 where

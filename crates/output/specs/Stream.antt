@@ -1,5 +1,6 @@
 -- What a call does to any state: how much it takes, what it puts out, the state behind it.
-use Rattle.std.specs.Prelude.{ℕ, suc, ◌+◌, ◌-◌, ◌*◌, min, Bool, cond, not, ◌&&◌, ◌||◌, List, [], ◌∷◌, ◌++◌, eqb, leb, length, replicate}
+use Rattle.std.specs.Prelude.{ℕ, suc, Option, None, Some, ◌+◌, ◌-◌, ◌*◌, min, Bool, cond, not, ◌&&◌, ◌||◌, List, [], ◌∷◌, ◌++◌, eqb, leb, length, replicate}
+use Rattle.std.specs.Option.{option_to_list}
 use Rattle.format.specs.declared.Answer.{Answer}
 use Rattle.format.specs.Answer.{refused_by}
 use Rattle.format.specs.Place.{nowhere}
@@ -10,6 +11,9 @@ use Rattle.state.specs.declared.Check.{Check}
 use Rattle.state.specs.Check.{started, fed}
 use Rattle.pieces.specs.Asked.{asked}
 use Rattle.output.specs.declared.Stream.{Stream}
+use Rattle.output.specs.declared.Due.{Due}
+use Rattle.output.specs.declared.Room.{Room}
+use Rattle.output.specs.declared.Buffer.{Buffer, TheVariants.Text, TheVariants.Ends, TheVariants.Rows}
 use Rattle.output.specs.Out.{Out, nothing, then}
 
 -- a refusal is shown: by the dialect bytes, by the length, or by a byte
@@ -57,11 +61,14 @@ due m c b e =
       rows = when (ends_record e) e.counts.fields.0;
     }
 
--- room for text, ends and rows
-pub record Room : Type 0 where
-  pub text : ℕ
-  pub ends : ℕ
-  pub rows : ℕ
+-- what the code makes of that
+abbrev pub due_out : Due → Out
+due_out d =
+    record {
+      text = replicate d.blanks 0x20 ++ option_to_list d.byte;
+      ends = option_to_list d.end;
+      rows = option_to_list d.row;
+    }
 
 unfoldable pub fits : Out → Room → Bool
 fits o r = leb (length o.text) r.text && (leb (length o.ends) r.ends && leb (length o.rows) r.rows)
@@ -72,6 +79,16 @@ left o r = record { text = r.text - length o.text; ends = r.ends - length o.ends
 -- the buffer that is too small, the lowest number first
 unfoldable pub short_of : Out → Room → ℕ
 short_of o r = cond (leb (length o.text) r.text) (cond (leb (length o.ends) r.ends) (cond (leb (length o.rows) r.rows) 0 13) 12) 11
+
+-- the code's name for it, by its number; no buffer is 0
+abbrev pub buffer_number : Buffer → ℕ
+buffer_number Text = 11
+buffer_number Ends = 12
+buffer_number Rows = 13
+
+abbrev pub short_number : Option Buffer → ℕ
+short_number None = 0
+short_number (Some b) = buffer_number b
 
 -- what a call gives: bytes taken, what it put out, the buffer that was short or 0, and the state for the next call
 pub record Called : Type 0 where

@@ -5,11 +5,11 @@
 
 #![tactic(auto)]
 
-ghost use Rattle.std.specs.Prelude.{◌+◌, ◌-◌, ◌≤◌, min, ◌≡◌, ◌&&◌};
+ghost use Rattle.std.specs.Prelude.{◌+◌, ◌-◌, ◌^◌, ◌<◌, min, ◌≡◌};
 ghost use Rattle.format.specs.House.{content_limit};
-ghost use Rattle.output.specs.Stream.{onward, shown, is_over, puts_text, ends_field, ends_record, byte_left, blanks_due, answer_of, closed_by};
+ghost use Rattle.output.specs.Stream.{onward, shown, is_over, ends_record, byte_left, blanks_left, blanks_due, due, due_out, buffer_number, answer_of, closed_by};
 
-use format::Answer;
+use format::{Answer, FieldNumber, Refusal, Totals};
 use state::Check;
 
 // A stream's state: the check's, how many of the blanks that it holds are out already, and whether a close
@@ -37,165 +37,161 @@ pub struct Streamed {
     pub answer: Answer,
 }
 
+// The answer of a stream that is open.
+const NO_ANSWER: Answer = Answer {
+    refusal: 0,
+    place: format::NOWHERE,
+    totals: Totals {
+        records: 0,
+        fields: FieldNumber(0),
+        text: 0,
+        report: 0,
+    },
+};
+
 // What a byte puts out, all of it: so many of the blanks held, and itself; the end of its field; the row.
 #[derive(Clone, Copy)]
 pub struct Due {
     pub blanks: u32,
-    pub byte: bool,
-    pub end: bool,
-    pub row: bool,
+    pub byte: Option<u8>,
+    pub end: Option<u32>,
+    pub row: Option<u32>,
 }
 
-// The stream behind a byte, by the check's state.
-pub fn onward_from(check: Check) -> Stream
-    ensures { result ≡ onward check }
-{
-    Stream {
-        check,
-        early: 0,
-        closed: 0,
+// A buffer that a call is lent.
+#[derive(Clone, Copy)]
+pub enum Buffer {
+    Text,
+    Ends,
+    Rows,
+}
+
+impl Buffer {
+    // The number by which a call says that it was short.
+    pub fn number(self) -> u32
+        ensures { result ≡ buffer_number self }
+    {
+        match self {
+            Buffer::Text => Refusal::NoRoomInText as u32,
+            Buffer::Ends => Refusal::NoRoomInEnds as u32,
+            Buffer::Rows => Refusal::NoRoomInRows as u32,
+        }
+    }
+}
+
+// How much room there is in each buffer.
+#[derive(Clone, Copy)]
+pub struct Room {
+    pub text: usize,
+    pub ends: usize,
+    pub rows: usize,
+}
+
+impl Stream {
+    // The stream behind a byte, by the check's state there.
+    pub fn onward(check: Check) -> Stream
+        ensures { result ≡ onward check }
+    {
+        Stream {
+            check,
+            early: 0,
+            closed: 0,
+        }
+    }
+
+    // Whether nothing more is taken or put out.
+    pub fn is_over(self) -> bool
+        ensures { result ≡ is_over self }
+    {
+        is_shown(self.check) || self.closed != 0
+    }
+
+    // What the byte b puts out, behind which the check is at another state.
+    #[tactic(auto, unfolding(crate::specs::Stream::due, crate::specs::Stream::blanks_due))]
+    pub fn due(self, b: u8, behind: Check) -> Due
+        ensures out { due_out result ≡ due self.early self.check b behind }
+        ensures blanks { result.blanks ≡ blanks_due self.early self.check behind }
+        ensures blanks_bound { self.early + result.blanks < 2 ^ 32 }
+    {
+        let is_content = self.check.field.content < behind.field.content;
+        Due {
+            blanks: if is_content { self.blanks_left() } else { 0 },
+            byte: (is_content && self.byte_left()).then_some(b),
+            end: (behind.form == steps::START).then_some(behind.counts.text),
+            row: ends_record(behind).then_some(behind.counts.fields.0),
+        }
+    }
+
+    // As many of the blanks held as are not out yet and the content limit leaves room for.
+    fn blanks_left(self) -> u32
+        ensures value { result ≡ blanks_left self.early self.check }
+        ensures bound { self.early + result < 2 ^ 32 }
+    {
+        let field = self.check.field;
+        let room = format::CONTENT_LIMIT
+            .saturating_sub(field.content)
+            .saturating_sub(self.early);
+        field.held.saturating_sub(self.early).min(room)
+    }
+
+    // Whether the content limit leaves room for a byte behind the blanks held.
+    fn byte_left(self) -> bool
+        ensures { result ≡ byte_left self.check }
+    {
+        let field = self.check.field;
+        field.held < format::CONTENT_LIMIT.saturating_sub(field.content)
+    }
+
+    // What a call tells that took and put out nothing: the answer is the check's, once the stream is over,
+    // and else 0 throughout.
+    pub fn told(self) -> Streamed
+        ensures { result ≡ record { state = self; taken = 0; text = 0; ends = 0; rows = 0; short = 0; closed = closed_by self; answer = answer_of self } }
+    {
+        Streamed {
+            state: self,
+            taken: 0,
+            text: 0,
+            ends: 0,
+            rows: 0,
+            short: 0,
+            closed: self.closed_by(),
+            answer: self.answer(),
+        }
+    }
+
+    #[tactic(auto, unfolding(crate::specs::Stream::answer_of))]
+    fn answer(self) -> Answer
+        ensures { result ≡ answer_of self }
+    {
+        if self.is_over() {
+            Answer::from(pieces::ask(self.check))
+        } else {
+            NO_ANSWER
+        }
+    }
+
+    // 1 from an accepted close on.
+    #[tactic(auto, unfolding(crate::specs::Stream::closed_by))]
+    fn closed_by(self) -> u32
+        ensures { result ≡ closed_by self }
+    {
+        u32::from(self.closed != 0 && Answer::from(pieces::ask(self.check)).refusal == 0)
     }
 }
 
 // Whether a refusal is shown: by the dialect bytes, by the length, or by a byte.
-pub fn is_shown(c: Check) -> bool
-    ensures { result ≡ shown c }
+#[tactic(auto, unfolding(crate::specs::Stream::shown))]
+pub fn is_shown(check: Check) -> bool
+    ensures { result ≡ shown check }
 {
-    if !state::is_valid(c.delimiter, c.leniencies) {
-        return true;
-    }
-    if format::FILE_LIMIT < c.here.byte.0 {
-        return true;
-    }
-    c.refusal != 0
+    !state::is_valid(check.dialect())
+        || format::FILE_LIMIT < check.here.byte.0
+        || check.refusal != 0
 }
 
-// Whether nothing more is taken or put out.
-pub fn is_over(s: Stream) -> bool
-    ensures { result ≡ is_over s }
+// Whether a byte ended a record, by the check behind it.
+fn ends_record(behind: Check) -> bool
+    ensures { result ≡ ends_record behind }
 {
-    if is_shown(s.check) {
-        return true;
-    }
-    s.closed != 0
-}
-
-// What a byte puts out, by the check before it and behind it, where so many of the blanks held are out
-// already.
-pub fn due_by(early: u32, c: Check, e: Check) -> Due
-    ensures value { result ≡ record { blanks = blanks_due early c e; byte = puts_text c e && byte_left c; end = ends_field e; row = ends_record e } }
-    ensures blanks_bound { early + result.blanks ≤ 4294967295 }
-{
-    let blanks = blanks_due(early, c, e);
-    let byte = byte_due(c, e);
-    let end = e.form == steps::START;
-    let row = ends_record(e);
-    Due {
-        blanks,
-        byte,
-        end,
-        row,
-    }
-}
-
-// The blanks.
-fn blanks_due(early: u32, c: Check, e: Check) -> u32
-    ensures value { result ≡ blanks_due early c e }
-    ensures result_bound { early + result ≤ 4294967295 }
-{
-    if e.field.content <= c.field.content {
-        return 0;
-    }
-    blanks_left(early, c.field.content, c.field.held)
-}
-
-// As many of the blanks held as the content limit leaves room for.
-fn blanks_left(early: u32, content: u32, held: u32) -> u32
-    ensures value { result ≡ min (held - early) (content_limit - (content + early)) }
-    ensures result_bound { early + result ≤ 4294967295 }
-{
-    smaller(
-        minus(held, early),
-        minus(minus(format::CONTENT_LIMIT, content), early),
-    )
-}
-
-// The byte itself, which the content limit has to leave room for.
-fn byte_due(c: Check, e: Check) -> bool
-    ensures { result ≡ (puts_text c e && byte_left c) }
-{
-    if e.field.content <= c.field.content {
-        return false;
-    }
-    c.field.held < minus(format::CONTENT_LIMIT, c.field.content)
-}
-
-// Whether it ended a record, by the check behind it.
-fn ends_record(e: Check) -> bool
-    ensures { result ≡ ends_record e }
-{
-    if e.form != steps::START {
-        return false;
-    }
-    e.begun == 0
-}
-
-// A difference, at least 0; the smaller of two numbers.
-fn minus(a: u32, b: u32) -> u32
-    ensures { result ≡ a - b }
-{
-    if b < a { a - b } else { 0 }
-}
-
-fn smaller(a: u32, b: u32) -> u32
-    ensures { result ≡ min a b }
-{
-    if a < b { a } else { b }
-}
-
-// What a call gives, by the state that it leaves and what it did: the answer is the check's, once the
-// stream is over, and else 0 throughout.
-pub fn told(
-    state: Stream,
-    taken: usize,
-    text: usize,
-    ends: usize,
-    rows: usize,
-    short: u32,
-) -> Streamed
-    ensures { result ≡ record { state = state; taken = taken; text = text; ends = ends; rows = rows; short = short; closed = closed_by state; answer = answer_of state } }
-{
-    let closed = closed_by(state);
-    let answer = answer_of(state);
-    Streamed {
-        state,
-        taken,
-        text,
-        ends,
-        rows,
-        short,
-        closed,
-        answer,
-    }
-}
-
-// The answer.
-fn answer_of(s: Stream) -> Answer
-    ensures { result ≡ answer_of s }
-{
-    if is_over(s) {
-        return pieces::ask(s.check);
-    }
-    pieces::refused_by(0, places::nowhere())
-}
-
-// 1 from an accepted close on.
-fn closed_by(s: Stream) -> u32
-    ensures { result ≡ closed_by s }
-{
-    if s.closed == 0 {
-        return 0;
-    }
-    let a = pieces::ask(s.check);
-    if a.refusal == 0 { 1 } else { 0 }
+    behind.form == steps::START && behind.begun == 0
 }

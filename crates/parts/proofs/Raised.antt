@@ -1,72 +1,73 @@
--- Entries made greater, one after the other.
-use Prim.Native.Nat.{ℕ, suc, ◌+◌, ◌-◌, ◌≤◌, ◌<◌}
+-- Entries that were put in a buffer, made greater.
+use Prim.Native.Nat.{ℕ, zero, suc, ◌+◌, ◌-◌, ◌≤◌, ◌<◌, ◌^◌}
 use native.Mathlib.Omega.{arith}
-use mathlib.Core.Path.{◌≡◌, sym, ap, subst, ◌∙◌}
-use mathlib.Core.List.{List, [], ◌∷◌}
-use lib.ListN.{length, take, drop, get_or, set, length-set, length-take, length-drop}
-use lib.Seq.{sets, drop-cons, drop-set-lt}
+use mathlib.Core.Path.{◌≡◌, refl, sym, ap, ◌∙◌}
+use mathlib.Core.List.{List, [], ◌∷◌, ◌++◌, map, append_assoc}
+use lib.ListN.{length, take, drop, length-append}
+use lib.Seq.{sets, sets-eq, length-sets, length-take-le, take_at, drop_at}
+use borrow.Rule.Slice.PartMut.{put_mid}
+use Rattle.std.proofs.Common.{All}
 use Rattle.format.specs.Table.{Every}
-use Rattle.format.specs.Memory.{largest32}
-use Rattle.format.specs.Filling.{Filling}
-use Rattle.format.proofs.Filling.{meant, move, push, same_size}
 use Rattle.fill.specs.Walk.{raised}
-use Rattle.fill.proofs.Part.{raised-length}
-use Rattle.parts.specs.Parts.{Raisable}
+use Rattle.taking.specs.Walk.{Put}
+use Rattle.taking.proofs.Growing.{put-size}
+use Rattle.taking.proofs.Put.{put_mid-sets}
 
--- the entries from one place to another
-abbrev pub between : List ℕ → ℕ → ℕ → List ℕ
-between l i to = take (to - i) (drop i l)
+pub map-raised : (n : ℕ) (l : List ℕ) → map (λ (x : ℕ). x + n) l ≡ raised n l
+map-raised n [] = refl
+map-raised n (x ∷ l) = ap (λ (m : List ℕ). (x + n) ∷ m) (map-raised n l)
 
-between-length : (l : List ℕ) (i to : ℕ) → to ≤ length l → length (between l i to) ≡ to - i
-between-length l i to h = length-take (to - i) (drop i l) ∙ omega (arith, length-drop i l)
+length-raised : (n : ℕ) (l : List ℕ) → length (raised n l) ≡ length l
+length-raised n [] = refl
+length-raised n (x ∷ l) = ap suc (length-raised n l)
 
-between_none : (l : List ℕ) (i to : ℕ) → to ≤ i → between l i to ≡ []
-between_none l i to h = let e : to - i ≡ 0 = omega arith in rw e
+-- entries of which each is no more than so much
+pub small-all : (n most : ℕ) (l : List ℕ) → Every (λ (x : ℕ). x ≤ most) l → most + n < 2 ^ 32 → All (λ (x : ℕ). x + n < 2 ^ 32) l
+small-all n most [] h b k d i = absurd (omega (arith, i))
+small-all n most (x ∷ l) h b zero d i = omega (arith, h.0, b)
+small-all n most (x ∷ l) h b (suc k) d i = small-all n most l h.1 b k d (omega (arith, i))
 
-between_cons : (l : List ℕ) (i to d : ℕ) → i < to → to ≤ length l → between l i to ≡ get_or l i d ∷ between l (i + 1) to
-between_cons l i to d h k =
-    let e : to - i ≡ suc (to - (i + 1)) = omega arith in
-    let z : suc i ≡ i + 1 = omega arith in
-    rw (e, drop-cons l i d (omega arith)) (ap (λ (j : ℕ). get_or l i d ∷ take (to - (i + 1)) (drop j l)) z)
+-- what was put there, and what is put over it
+module _ (buf new : List ℕ) (at : ℕ) (room : at + length new ≤ length buf) where
+  put_back : take (length new) (drop at (sets buf at new)) ≡ new
+  put_back =
+      ap (λ (l : List ℕ). take (length new) (drop at l)) (sets-eq new buf at room ∙ append_assoc (take at buf) new (drop (at + length new) buf))
+      ∙ (ap (take (length new)) (drop_at (take at buf) (new ++ drop (at + length new) buf) at (length-take-le at buf (omega (arith, room))))
+      ∙ take_at new (drop (at + length new) buf) (length new) refl)
 
-between-set : (l : List ℕ) (i to a : ℕ) → between (set l i a) (i + 1) to ≡ between l (i + 1) to
-between-set l i to a = rw (drop-set-lt (i + 1) l i a (omega arith))
+  put-over : (m : List ℕ) → length m ≡ length new → sets (sets buf at new) at m ≡ sets buf at m
+  put-over m e =
+      let b : List ℕ = drop (at + length new) buf in
+      let f : length (take at buf) ≡ at = length-take-le at buf (omega (arith, room)) in
+      let p = sets-eq new buf at room ∙ append_assoc (take at buf) new b in
+      let q = sets-eq m (sets buf at new) at (omega (arith, length-sets buf at new, room, e)) in
+      let s = sets-eq m buf at (omega (arith, room, e)) in
+      let t : take at (sets buf at new) ≡ take at buf = ap (take at) p ∙ take_at (take at buf) (new ++ b) at f in
+      let n : length (take at buf ++ new) ≡ at + length m = length-append (take at buf) new ∙ omega (arith, f, e) in
+      let d : drop (at + length m) (sets buf at new) ≡ b =
+      ap (drop (at + length m)) (p ∙ sym (append_assoc (take at buf) new b)) ∙ drop_at (take at buf ++ new) b (at + length m) n in
+      let u : b ≡ drop (at + length m) buf = ap (λ (j : ℕ). drop (at + j) buf) (sym e) in
+      q ∙ ((λ i. t i ++ m ++ d i) ∙ ((λ i. take at buf ++ m ++ u i) ∙ sym s))
 
--- up to the place i the entries have been made greater
-module _ (n from to : ℕ) (entries : List ℕ) where
-  pub record Raising (l : List ℕ) (i : ℕ) : Type 0 where
-    pub order : i ≤ to
-    pub inside : to ≤ length l
-    pub fills : Filling l i (raised n (between l i to)) (sets entries from (raised n (between entries from to)))
-    pub small : Every (λ (x : ℕ). x + n ≤ largest32) (between l i to)
+module _ {buf new buf' : List ℕ} {at at' : ℕ} (w : Put buf at new buf' at') where
+  new_is : take (at' - at) (drop at buf') ≡ new
+  new_is =
+      let e : at' - at ≡ length new = omega (arith, w.at_is) in
+      (λ i. take (e i) (drop at (w.buf_is i))) ∙ put_back buf new at w.room
 
-  pub raise-first : Raisable entries from to n → Raising entries from
-  raise-first h =
-      let e = raised-length n (between entries from to) ∙ between-length entries from to h.inside in
-      let o = h.order in
-      let k = h.inside in
-      record { order = o; inside = k; fills = meant entries from (raised n (between entries from to)) (omega arith); small = h.small }
+  pub put-raised :
+      (n : ℕ) {raised' : List ℕ} → raised' ≡ map (λ (x : ℕ). x + n) (take (at' - at) (drop at buf'))
+      → Put buf at (raised n new) (put_mid at (at' - at) buf' raised') at'
+  put-raised n {raised'} e =
+      let l = length-raised n new in
+      let r : raised' ≡ raised n new = e ∙ (ap (map (λ (x : ℕ). x + n)) new_is ∙ map-raised n new) in
+      let k : at' - at ≡ length new = omega (arith, w.at_is) in
+      let p : put_mid at (at' - at) buf' raised' ≡ sets buf' at raised' = put_mid-sets at (at' - at) buf' raised' (ap length r ∙ omega (arith, l, k)) (omega (arith, put-size w, w.room, k)) in
+      record {
+        room = omega (arith, w.room, l);
+        buf_is = p ∙ ((λ i. sets (w.buf_is i) at (r i)) ∙ put-over buf new at w.room (raised n new) l);
+        at_is = omega (arith, w.at_is, l);
+      }
 
-  module _ {l : List ℕ} {i : ℕ} (d : ℕ) (w : Raising l i) (h : i < to) where
-    pub raise-small : get_or l i d + n ≤ largest32
-    raise-small = (subst (Every (λ (x : ℕ). x + n ≤ largest32)) (between_cons l i to d h w.inside) w.small).0
-
-    pub raise-next : Raising (set l i (get_or l i d + n)) (i + 1)
-    raise-next =
-        let a = get_or l i d + n in
-        let e = between_cons l i to d h w.inside in
-        let q = between-set l i to a in
-        let k = w.inside in
-        let s = length-set l i a in
-        record {
-          order = omega arith;
-          inside = omega arith;
-          fills = move (ap (raised n) (sym q)) (push _ (move (ap (raised n) e) w.fills));
-          small = subst (Every (λ (x : ℕ). x + n ≤ largest32)) (sym q) (subst (Every (λ (x : ℕ). x + n ≤ largest32)) e w.small).1;
-        }
-
-  pub raise-last : {l : List ℕ} {i : ℕ} → Raising l i → to ≤ i → l ≡ sets entries from (raised n (between entries from to))
-  raise-last {l} {i} w h = (move (ap (raised n) (between_none l i to h)) w.fills).fills
-
-  pub raise-size : {l m : List ℕ} {i j : ℕ} → Raising l i → Raising m j → length l ≡ length m
-  raise-size v w = same_size v.fills w.fills
+  pub put-small : (n most : ℕ) → Every (λ (x : ℕ). x ≤ most) new → most + n < 2 ^ 32 → All (λ (x : ℕ). x + n < 2 ^ 32) (take (at' - at) (drop at buf'))
+  put-small n most h b = rw new_is (small-all n most new h b)

@@ -38,11 +38,8 @@ pub fn passed(check: Check, s: &[u8], at: usize) -> Reached
     if check.form == steps::QUOTED {
         return pass_inside(check, s, at);
     }
-    if steps::QUOTED < check.form {
-        return Reached { at, check };
-    }
-    // no walk goes over the first LF alone, and it would make its tables before it sees one
-    if (s[at] == 0x0A) & (check.used.lf == 0) {
+    // No walk goes over the first LF alone, and it would make its tables before it sees one.
+    if steps::QUOTED < check.form || (s[at] == b'\n' && check.used.lf == 0) {
         return Reached { at, check };
     }
     let r = pass_rows(check, s, at);
@@ -55,19 +52,17 @@ pub fn passed(check: Check, s: &[u8], at: usize) -> Reached
 // Passes all bytes behind a refusal, which are only counted.
 fn pass_refused(check: Check, s: &[u8], at: usize) -> Reached
     requires at_in_bounds { at ≤ length s.now }
-    requires fact { check.refusal ≡ 0 → ⊥ }
+    requires is_refused { check.refusal ≡ 0 → ⊥ }
     ensures { Leads check s.now at result }
 {
-    let here = check.here;
-    if !is_before_stop(here) {
+    if !is_before_stop(check.here) {
         return Reached { at, check };
     }
     let lines = runs::line_feeds(s, at);
     let tail = runs::since_lf(s, at);
-    let end = s.len();
-    let p = places::spot(lines, tail, end - at, here);
+    let p = places::spot(lines, tail, s.len() - at, check.here);
     Reached {
-        at: end,
+        at: s.len(),
         check: check.placed(p),
     }
 }
@@ -76,48 +71,40 @@ fn pass_refused(check: Check, s: &[u8], at: usize) -> Reached
 fn is_before_stop(p: Place) -> bool
     ensures { result ≡ true → (p.line.0 ≤ counter_limit) × (p.column.0 ≤ counter_limit) × (p.byte.0 ≤ counter_limit) }
 {
-    if places::COUNTER_LIMIT < p.line.0 {
-        return false;
-    }
-    if places::COUNTER_LIMIT < p.column.0 {
-        return false;
-    }
-    p.byte.0 <= places::COUNTER_LIMIT
+    p.line.0 <= places::COUNTER_LIMIT
+        && p.column.0 <= places::COUNTER_LIMIT
+        && p.byte.0 <= places::COUNTER_LIMIT
 }
 
 // Passes plain text outside quotes.
 fn pass_text(check: Check, s: &[u8], at: usize) -> Reached
     requires at_in_bounds { at ≤ length s.now }
-    requires refusal_value { (check.refusal ≡ 0) × (check.form ≤ form_number bare) }
+    requires outside { (check.refusal ≡ 0) × (check.form ≤ form_number bare) }
     ensures { Leads check s.now at result }
 {
-    let k = runs::text_run(check.delimiter, check.leniencies, s, at);
+    let k = runs::text_run(check.dialect(), s, at);
     if k == 0 {
         return Reached { at, check };
     }
-    let here = check.here;
-    let next = check.jumped(steps::BARE, places::along(k, here), k);
     Reached {
         at: at + k,
-        check: next,
+        check: check.jumped(steps::BARE, places::along(k, check.here), k),
     }
 }
 
 // Passes content between quotes.
 fn pass_inside(check: Check, s: &[u8], at: usize) -> Reached
     requires at_in_bounds { at ≤ length s.now }
-    requires refusal_value { (check.refusal ≡ 0) × (check.form ≡ form_number quoted) }
+    requires between { (check.refusal ≡ 0) × (check.form ≡ form_number quoted) }
     ensures { Leads check s.now at result }
 {
     if !is_settled(check) {
         return Reached { at, check };
     }
     let q = spans::between_quotes(s, at);
-    let end = q.end;
-    let here = check.here;
-    let p = places::spot(q.lines, q.tail, end - at, here);
+    let p = places::spot(q.lines, q.tail, q.end - at, check.here);
     Reached {
-        at: end,
+        at: q.end,
         check: check.jumped(steps::QUOTED, p, q.content),
     }
 }
@@ -126,20 +113,11 @@ fn pass_inside(check: Check, s: &[u8], at: usize) -> Reached
 fn is_settled(check: Check) -> bool
     ensures { result ≡ true → check.refusal ≡ 0 → check.form ≡ form_number quoted → Settled check }
 {
-    if check.delimiter == 0x22 {
-        return false;
-    }
-    if check.begun != 1 {
-        return false;
-    }
-    if check.field.held != 0 {
-        return false;
-    }
-    if places::COUNTER_LIMIT < check.field.content {
-        return false;
-    }
-    let here = check.here;
-    is_before_stop(here)
+    check.delimiter != b'"'
+        && check.begun == 1
+        && check.field.held == 0
+        && check.field.content <= places::COUNTER_LIMIT
+        && is_before_stop(check.here)
 }
 
 // Passes fields and records.
@@ -147,14 +125,14 @@ fn pass_rows(check: Check, s: &[u8], at: usize) -> Reached
     ensures { Leads check s.now at result }
 {
     let x = spans::rows(check, s, at);
-    let end = x.at;
     Reached {
-        at: end,
+        at: x.at,
         check: walked(check, x, at),
     }
 }
 
 // The state behind a walk from a place: the field in work, and its text so far.
+#[tactic(auto, unfolding(spans::specs::Walk::walked))]
 fn walked(check: Check, x: Walk, at: usize) -> Check
     requires { (at ≤ x.line) × (x.line ≤ x.start) × (x.start ≤ x.at) }
     ensures { result ≡ walked x at check }
@@ -169,8 +147,7 @@ fn texted(check: Check, m: usize) -> Check
     if m == 0 {
         return check;
     }
-    let here = check.here;
-    check.jumped(steps::BARE, places::along(m, here), m)
+    check.jumped(steps::BARE, places::along(m, check.here), m)
 }
 
 // Where the field in work begins: where the walk does, while no field is closed.
@@ -189,30 +166,26 @@ fn opening(check: Check, x: Walk, at: usize) -> Check
     requires { (at ≤ x.line) × (x.line ≤ x.start) }
     ensures { result ≡ opening x at check }
 {
-    let here = check.here;
-    let p = places::spot(x.lines, x.start - x.line, x.start - at, here);
-    let number = FieldNumber(places::plus(0, x.number));
+    let here = places::spot(x.lines, x.start - x.line, x.start - at, check.here);
     let field = Current {
-        start: p,
+        start: here,
         content: 0,
         held: 0,
-        number,
+        number: FieldNumber(places::plus(0, x.number)),
     };
-    let fields = FieldNumber(places::plus(check.counts.fields.0, x.fields));
     let counts = Counts {
         records: places::plus(check.counts.records, x.rows),
-        fields,
+        fields: FieldNumber(places::plus(check.counts.fields.0, x.fields)),
         text: places::plus(check.counts.text, x.text),
-        width: check.counts.width,
+        ..check.counts
     };
-    let begun = if x.number == 0 { 0 } else { 1 };
-    let anchor = places::nowhere();
-    let mut c = check;
-    c.form = steps::START;
-    c.begun = begun;
-    c.here = p;
-    c.anchor = anchor;
-    c.field = field;
-    c.counts = counts;
-    c
+    Check {
+        form: steps::START,
+        begun: u8::from(x.number != 0),
+        here,
+        anchor: places::nowhere(),
+        field,
+        counts,
+        ..check
+    }
 }

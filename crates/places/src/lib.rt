@@ -5,9 +5,9 @@
 
 #![tactic(auto)]
 
-ghost use Rattle.std.specs.Prelude.{min, ◌≡◌};
+ghost use Rattle.std.specs.Prelude.{◌≡◌};
 ghost use Rattle.format.specs.Place.{place, nowhere};
-ghost use Rattle.places.specs.Counters.{counter_limit, plus, moved, along, spot};
+ghost use Rattle.places.specs.Counters.{plus, moved, along, spot};
 
 use format::{ByteOffset, Column, Line, Place};
 
@@ -18,40 +18,28 @@ pub const COUNTER_LIMIT: u32 = 16777217;
 pub fn plus(a: u32, n: usize) -> u32
     ensures { result ≡ plus a n }
 {
-    stop(stop(a) + counted(n))
-}
-
-// A counter, stopped there.
-fn stop(n: u32) -> u32
-    ensures { result ≡ min n counter_limit }
-{
-    if n < COUNTER_LIMIT { n } else { COUNTER_LIMIT }
-}
-
-// A length as a counter.
-fn counted(n: usize) -> u32
-    ensures { result ≡ min n counter_limit }
-{
-    if n < (COUNTER_LIMIT as usize) {
-        n as u32
-    } else {
-        COUNTER_LIMIT
-    }
+    let more = n.min(COUNTER_LIMIT as usize) as u32;
+    (a.min(COUNTER_LIMIT) + more).min(COUNTER_LIMIT)
 }
 
 // The place behind a byte that stands at p.
+#[tactic(auto, unfolding(crate::specs::Counters::moved))]
 pub fn moved(b: u8, p: Place) -> Place
     ensures { result ≡ moved b p }
 {
     let byte = ByteOffset(plus(p.byte.0, 1));
-    if b == 0x0A {
-        let line = Line(plus(p.line.0, 1));
-        let column = Column(1);
-        Place { line, column, byte }
+    if b == b'\n' {
+        Place {
+            line: Line(plus(p.line.0, 1)),
+            column: Column(1),
+            byte,
+        }
     } else {
-        let line = p.line;
-        let column = Column(plus(p.column.0, 1));
-        Place { line, column, byte }
+        Place {
+            line: p.line,
+            column: Column(plus(p.column.0, 1)),
+            byte,
+        }
     }
 }
 
@@ -59,29 +47,29 @@ pub fn moved(b: u8, p: Place) -> Place
 pub fn along(n: usize, p: Place) -> Place
     ensures { result ≡ along n p }
 {
-    let line = p.line;
-    let column = Column(plus(p.column.0, n));
-    let byte = ByteOffset(plus(p.byte.0, n));
-    Place { line, column, byte }
+    Place {
+        line: p.line,
+        column: Column(plus(p.column.0, n)),
+        byte: ByteOffset(plus(p.byte.0, n)),
+    }
 }
 
 // The place so many bytes on, behind so many line feeds and the tail behind the last of them.
+#[tactic(auto, unfolding(crate::specs::Counters::spot))]
 pub fn spot(lines: usize, tail: usize, bytes: usize, p: Place) -> Place
     ensures { result ≡ spot lines tail bytes p }
 {
     let from = if lines == 0 { p.column.0 } else { 1 };
-    let line = Line(plus(p.line.0, lines));
-    let column = Column(plus(from, tail));
-    let byte = ByteOffset(plus(p.byte.0, bytes));
-    Place { line, column, byte }
+    Place {
+        line: Line(plus(p.line.0, lines)),
+        column: Column(plus(from, tail)),
+        byte: ByteOffset(plus(p.byte.0, bytes)),
+    }
 }
 
 // The place that names nothing.
 pub fn nowhere() -> Place
     ensures { result ≡ nowhere }
 {
-    let line = Line(0);
-    let column = Column(0);
-    let byte = ByteOffset(0);
-    Place { line, column, byte }
+    format::NOWHERE
 }

@@ -1,8 +1,8 @@
 -- Outcomes of a read: from the check's answer to them, and the laws that two calls obey.
 use Prim.Native.Nat.{ℕ, ◌≤◌, ◌<◌}
 use native.Mathlib.Omega.{arith}
-use mathlib.Core.Path.{◌≡◌, refl, sym, subst}
-use mathlib.Core.List.{List, flatten}
+use mathlib.Core.Path.{◌≡◌, refl}
+use mathlib.Core.List.{flatten}
 use lib.ListN.{length}
 use Rattle.format.specs.declared.Answer.{Answer}
 use Rattle.format.specs.Answer.{accepted_as, refused_by}
@@ -16,8 +16,8 @@ use Rattle.format.proofs.Memory.{length-lengths}
 use Rattle.format.proofs.Numbers.{refused-number}
 use Rattle.pieces.specs.Answers.{Answers, accepted, refused}
 use Rattle.fill.specs.Fill.{text_read, ends_read, rows_read}
-use Rattle.format.specs.Filling.{over}
-use Rattle.reader.specs.Read.{NoRoom, no_text, no_ends, no_rows, ReadOutcome}
+use Rattle.fill.specs.Buffers.{Lists}
+use Rattle.reader.specs.Read.{NoRoom, no_text, no_ends, no_rows, ReadOutcome, Reads, WrittenOver}
 use Rattle.fill.proofs.Flow.{filled}
 
 -- what the second walk has to write is the table
@@ -50,38 +50,32 @@ has_room (takes {t} h) i j k =
     (rw w.text_is i, rw (w.ends_is, length-lengths 0 (flatten t)) j, rw (w.rows_is, length-lengths 0 t) k)
 
 -- from the check's answer and the tests of room to the outcome
-module _ {b sum : ℕ} {f text : Bytes} {ends rows : List ℕ} where
+module _ {b sum : ℕ} {f : Bytes} {old : Lists} where
   -- a refusal of the check is the outcome
-  pub declines : {a : Answer} → Answers b sum f a → (a.refusal ≡ 0 → ⊥) → ReadOutcome b sum f text ends rows a text ends rows
+  pub declines : {a : Answer} → Answers b sum f a → (a.refusal ≡ 0 → ⊥) → Reads b sum f old a old
   declines (accepted h) n = absurd (n refl)
   declines (refused h) n = ReadOutcome.refused h
 
-  lacks : {t : Table} {r n : ℕ} {a : Answer} → Accepted b sum f t r → NoRoom t text ends rows n → a ≡ refused_by n nowhere
-      → ReadOutcome b sum f text ends rows a text ends rows
-  lacks h k e = subst (λ (a : Answer). ReadOutcome b sum f text ends rows a text ends rows) (sym e) (ReadOutcome.no_room h k)
+  lacks : {t : Table} {r n : ℕ} {a : Answer} → Accepted b sum f t r → NoRoom t old.text old.ends old.rows n → a ≡ refused_by n nowhere → Reads b sum f old a old
+  lacks h k e = rw e (ReadOutcome.no_room h k)
 
   module _ {a' : Answer} where
-    pub lacks-text :
-        {a : Answer} → Takes b sum f a → length text < a.totals.text → a' ≡ refused_by 11 nowhere
-        → ReadOutcome b sum f text ends rows a' text ends rows
+    pub lacks-text : {a : Answer} → Takes b sum f a → length old.text < a.totals.text → a' ≡ refused_by 11 nowhere → Reads b sum f old a' old
     lacks-text (takes h) k = lacks h (no_text k)
 
-    pub lacks-ends :
-        {a : Answer} → Takes b sum f a → a.totals.text ≤ length text → length ends < a.totals.fields.0 → a' ≡ refused_by 12 nowhere
-        → ReadOutcome b sum f text ends rows a' text ends rows
+    pub lacks-ends : {a : Answer} → Takes b sum f a → a.totals.text ≤ length old.text → length old.ends < a.totals.fields.0 → a' ≡ refused_by 12 nowhere → Reads b sum f old a' old
     lacks-ends (takes h) i k = lacks h (no_ends i k)
 
     pub lacks-rows :
-        {a : Answer} → Takes b sum f a → a.totals.text ≤ length text → a.totals.fields.0 ≤ length ends → length rows < a.totals.records
-        → a' ≡ refused_by 13 nowhere → ReadOutcome b sum f text ends rows a' text ends rows
+        {a : Answer} → Takes b sum f a → a.totals.text ≤ length old.text → a.totals.fields.0 ≤ length old.ends → length old.rows < a.totals.records → a' ≡ refused_by 13 nowhere
+        → Reads b sum f old a' old
     lacks-rows (takes h) i j k = lacks h (no_rows i j k)
 
   -- what the second walk has written is the outcome
   pub fills :
-      {a : Answer} {text' : Bytes} {ends' rows' : List ℕ}
-      → Takes b sum f a → a.totals.text ≤ length text → a.totals.fields.0 ≤ length ends → a.totals.records ≤ length rows
-      → text' ≡ over (text_read (dialect b sum) f) text → ends' ≡ over (ends_read (dialect b sum) f) ends
-      → rows' ≡ over (rows_read (dialect b sum) f) rows → ReadOutcome b sum f text ends rows a text' ends' rows'
-  fills (takes h) i j k x y z =
+      {a : Answer} {new : Lists}
+      → Takes b sum f a → a.totals.text ≤ length old.text → a.totals.fields.0 ≤ length old.ends → a.totals.records ≤ length old.rows
+      → WrittenOver (dialect b sum) f old new → Reads b sum f old a new
+  fills (takes h) i j k x =
       let w = walked h in
-      rw (x, y, z, w.text_is, w.ends_is, w.rows_is) (ReadOutcome.filled h (record { for_text = i; for_ends = j; for_rows = k }))
+      rw (x.text_is, x.ends_is, x.rows_is, w.text_is, w.ends_is, w.rows_is) (ReadOutcome.filled h (record { for_text = i; for_ends = j; for_rows = k }))

@@ -1,14 +1,20 @@
 -- What a read promises: its answer, and each of the three buffers behind it.
-use Rattle.std.specs.Prelude.{ℕ, ◌≤◌, ◌<◌, length}
+use Rattle.std.specs.Prelude.{ℕ, ◌≤◌, ◌<◌, ◌≡◌, false, length}
 use mathlib.Core.List.{List, flatten}
 use Rattle.format.specs.declared.Place.{Place}
 use Rattle.format.specs.declared.Answer.{Answer}
 use Rattle.format.specs.Table.{Bytes, Table}
 use Rattle.format.specs.Memory.{text_of, ends_of, rows_of}
+use Rattle.format.specs.Dialect.{Dialect}
 use Rattle.format.specs.Place.{nowhere}
 use Rattle.format.specs.Reading.{Accepted, Refused}
 use Rattle.format.specs.Answer.{accepted_as, refused_by}
 use Rattle.format.specs.Filling.{over}
+use Rattle.steps.specs.Steps.{start}
+use Rattle.steps.specs.Numbers.{form_number}
+use Rattle.fill.specs.declared.Head.{Head}
+use Rattle.fill.specs.Buffers.{Lists}
+use Rattle.fill.specs.Fill.{text_read, ends_read, rows_read}
 
 -- room for a table: its contents in text, a place of ends for each field, one of rows for each record
 pub record Room (t : Table) (text : Bytes) (ends rows : List ℕ) : Type 0 where
@@ -31,3 +37,17 @@ pub data ReadOutcome (b sum : ℕ) (f text : Bytes) (ends rows : List ℕ) : Ans
   filled : {t : Table} {r : ℕ}
       → Accepted b sum f t r → Room t text ends rows
       → ReadOutcome b sum f text ends rows (accepted_as t r) (over (text_of t) text) (over (ends_of t) ends) (over (rows_of t) rows)
+
+-- a read into the three lent buffers, by what they hold
+abbrev pub Reads : ℕ → ℕ → Bytes → Lists → Answer → Lists → Type 0
+Reads b sum f old a new = ReadOutcome b sum f old.text old.ends old.rows a new.text new.ends new.rows
+
+-- where the second walk begins
+abbrev pub first : Head
+first = record { at = 0; form = form_number start; held = 0; text = 0; ends = 0; rows = 0; begun = false }
+
+-- all that the second walk has to write of a file, over the front of the buffers
+pub record WrittenOver (d : Dialect) (f : Bytes) (old new : Lists) : Type 0 where
+  pub text_is : new.text ≡ over (text_read d f) old.text
+  pub ends_is : new.ends ≡ over (ends_read d f) old.ends
+  pub rows_is : new.rows ≡ over (rows_read d f) old.rows

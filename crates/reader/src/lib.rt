@@ -5,102 +5,65 @@
 
 #![tactic(auto)]
 
-ghost use Rattle.std.specs.Prelude.{◌≡◌, ◌≤◌, length};
-ghost use Rattle.format.specs.Dialect.{dialect};
-ghost use Rattle.format.specs.Filling.{over};
-ghost use Rattle.format.specs.Memory.{largest32};
-ghost use Rattle.format.specs.Place.{place, nowhere};
-ghost use Rattle.format.specs.Answer.{refused_by};
-ghost use Rattle.fill.specs.Fill.{text_read, ends_read, rows_read};
+ghost use Rattle.std.specs.Prelude.{◌≡◌, true};
+ghost use Rattle.format.specs.Answer.{answer_from, accepted_with};
+ghost use Rattle.format.specs.Meant.{dialect_of};
+ghost use Rattle.fill.specs.Buffers.{SameBuffers, lists};
+ghost use Rattle.stride.specs.Stride.{Ample};
 ghost use Rattle.pieces.specs.Answers.{Answers};
-ghost use Rattle.reader.specs.Read.{ReadOutcome};
+ghost use Rattle.reader.specs.Read.{Reads, WrittenOver, first};
 
-use fill::Head;
-use format::Answer;
+use fill::{Buffers, Head};
+use format::{Dialect, ReadError, Refusal, Totals};
 
 // Reads a file in a dialect: the table into the three buffers, what stands behind it left alone; or
 // the refusal, and nothing written.
-pub fn read(
-    file: &[u8],
-    delimiter: u8,
-    leniencies: u8,
-    text: &mut [u8],
-    ends: &mut [u32],
-    rows: &mut [u32],
-) -> Answer
-    ensures { ReadOutcome delimiter leniencies file.now text.old ends.old rows.old result text.new ends.new rows.new }
+pub fn read(file: &[u8], dialect: Dialect, to: &mut Buffers) -> Result<Totals, ReadError>
+    ensures same { SameBuffers to.old to.new }
+    ensures outcome { Reads dialect.delimiter dialect.leniencies file.now (lists to.old) (answer_from result) (lists to.new) }
 {
-    let answer = checked(file, delimiter, leniencies);
-    if answer.refusal != 0 {
-        return answer;
-    }
-    read_accepted(file, delimiter, leniencies, answer, text, ends, rows)
+    let totals = pieces::checked(file, dialect)?;
+    read_accepted(file, dialect, totals, to)
 }
 
 // Reads a file in the strict dialect: comma, and no leniency.
-pub fn read_strict(file: &[u8], text: &mut [u8], ends: &mut [u32], rows: &mut [u32]) -> Answer
-    ensures { ReadOutcome 0x2C 0 file.now text.old ends.old rows.old result text.new ends.new rows.new }
+pub fn read_strict(file: &[u8], to: &mut Buffers) -> Result<Totals, ReadError>
+    ensures same { SameBuffers to.old to.new }
+    ensures outcome { Reads 0x2C 0 file.now (lists to.old) (answer_from result) (lists to.new) }
 {
-    read(file, b',', 0, text, ends, rows)
+    read(file, format::STRICT, to)
 }
 
-// The check of the whole file.
-fn checked(file: &[u8], delimiter: u8, leniencies: u8) -> Answer
-    ensures { Answers delimiter leniencies file.now result }
-{
-    pieces::ask(pieces::feed(pieces::start(delimiter, leniencies), file))
-}
-
-// Reads a file that the check accepted, with its answer, if there is room.
+// Reads a file that the check accepted, by what it holds, if there is room.
 fn read_accepted(
     file: &[u8],
-    delimiter: u8,
-    leniencies: u8,
-    answer: Answer,
-    text: &mut [u8],
-    ends: &mut [u32],
-    rows: &mut [u32],
-) -> Answer
-    requires { Answers delimiter leniencies file.now answer × (answer.refusal ≡ 0) }
-    ensures { ReadOutcome delimiter leniencies file.now text.old ends.old rows.old result text.new ends.new rows.new }
+    dialect: Dialect,
+    totals: Totals,
+    to: &mut Buffers,
+) -> Result<Totals, ReadError>
+    requires { Answers dialect.delimiter dialect.leniencies file.now (accepted_with totals) }
+    ensures same { SameBuffers to.old to.new }
+    ensures outcome { Reads dialect.delimiter dialect.leniencies file.now (lists to.old) (answer_from result) (lists to.new) }
 {
-    if text.len() < answer.totals.text as usize {
-        return no_room(11);
+    if to.text.len() < totals.text as usize {
+        return Err(Refusal::NoRoomInText.at(places::nowhere()));
     }
-    if ends.len() < answer.totals.fields.0 as usize {
-        return no_room(12);
+    if to.ends.len() < totals.fields.0 as usize {
+        return Err(Refusal::NoRoomInEnds.at(places::nowhere()));
     }
-    if rows.len() < answer.totals.records as usize {
-        return no_room(13);
+    if to.rows.len() < totals.records as usize {
+        return Err(Refusal::NoRoomInRows.at(places::nowhere()));
     }
-    write_table(file, delimiter, leniencies, text, ends, rows);
-    answer
-}
-
-// The refusal of a buffer that is too small, which names no place.
-fn no_room(n: u8) -> Answer
-    ensures { result ≡ refused_by n nowhere }
-{
-    pieces::refused_by(n, places::nowhere())
+    write_table(file, dialect, to);
+    Ok(totals)
 }
 
 // Writes the table of an accepted file. Nothing is judged here: the check has been over the file, and
 // the room has been tested.
-fn write_table(
-    file: &[u8],
-    delimiter: u8,
-    leniencies: u8,
-    text: &mut [u8],
-    ends: &mut [u32],
-    rows: &mut [u32],
-)
-    requires file_len_bound { (length (text_read (dialect delimiter leniencies) file.now) ≤ largest32) × (length (ends_read (dialect delimiter leniencies) file.now) ≤ largest32) }
-    requires file_in_bounds { length (text_read (dialect delimiter leniencies) file.now) ≤ length text.old }
-    requires file_in_bounds_2 { length (ends_read (dialect delimiter leniencies) file.now) ≤ length ends.old }
-    requires file_in_bounds_3 { length (rows_read (dialect delimiter leniencies) file.now) ≤ length rows.old }
-    ensures text_after { text.new ≡ over (text_read (dialect delimiter leniencies) file.now) text.old }
-    ensures ends_after { ends.new ≡ over (ends_read (dialect delimiter leniencies) file.now) ends.old }
-    ensures rows_after { rows.new ≡ over (rows_read (dialect delimiter leniencies) file.now) rows.old }
+fn write_table(file: &[u8], dialect: Dialect, to: &mut Buffers)
+    requires { Ample true (dialect_of dialect) file.now first (lists to.old) }
+    ensures same { SameBuffers to.old to.new }
+    ensures written { WrittenOver (dialect_of dialect) file.now (lists to.old) (lists to.new) }
 {
     let head = Head {
         at: 0,
@@ -111,8 +74,8 @@ fn write_table(
         rows: 0,
         begun: false,
     };
-    let last = walk::walked(file, delimiter, leniencies, head, text, ends, rows);
+    let last = walk::walked(file, dialect, head, to);
     if last.begun {
-        fill::put_end(last, last.at, true, ends, rows);
+        fill::put_end(last, last.at, true, to);
     }
 }

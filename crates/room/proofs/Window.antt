@@ -22,7 +22,8 @@ use Rattle.fill.specs.Fill.{text_by, ends_by, rows_by, text_left, ends_left, row
 use Rattle.fill.proofs.Left.{text-none, text_byte, ends-none, ends-byte, rows_none, rows-byte}
 use Rattle.fill.proofs.Part.{ends-any, rows-any}
 use Rattle.output.specs.Out.{Out, nothing as silence, then}
-use Rattle.output.specs.Stream.{shown, puts_text, ends_field, byte_left, due, Room, left, Called, onward, taking, streamed}
+use Rattle.output.specs.declared.Room.{Room}
+use Rattle.output.specs.Stream.{shown, puts_text, ends_field, byte_left, due, left, Called, onward, taking, streamed}
 use Rattle.taking.specs.Walk.{adding}
 use Rattle.room.specs.Room.{dialect_of, put_out}
 use Rattle.taking.proofs.Growing.{adds_none}

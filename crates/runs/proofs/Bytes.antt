@@ -41,6 +41,10 @@ plain-range d b out = go (is_plain d b) refl
     go true e = let (t, n) = plain-parts d b e in let (l, h) = text-range d b t n in absurd (out l h)
     go false e = refl
 
+-- plain text or the delimiter
+pub row-range : (d : Dialect) (b : ℕ) → (0x20 ≤ b → b ≤ 0x7E → ⊥) → (d.delimiter_byte ≡ b → ⊥) → (is_plain d b || eqb b d.delimiter_byte) ≡ false
+row-range d b out other = let e = ne_eqb b d.delimiter_byte (λ q. other (sym q)) in rw (plain-range d b out, e)
+
 lf-not-plain : (d : Dialect) → is_plain d 0x0A ≡ true → ⊥
 lf-not-plain d e = false≢true (sym (text-ordinary d 0x0A (plain-class d 0x0A e)).0 ∙ or-true (eqb 0x0A d.delimiter_byte))
 
@@ -66,6 +70,14 @@ inner-range b = go (strict-class b)
     go (strict_CR q) = rw q
     go (strict_LF q) = rw q
     go (strict_other u v w) = rw (ne_eqb b 0x0D v) (outside (leb 0x20 b) (leb b 0x7E) refl refl u)
+
+pub inner-beyond : (b : ℕ) → (0x20 ≤ b → b ≤ 0x7E → ⊥) → (0x0D ≡ b → ⊥) → is_inner b ≡ false
+inner-beyond b out other = inner-range b ∙ rw (ne_eqb b 0x0D (λ q. other (sym q))) (go (leb 0x20 b) (leb b 0x7E) refl refl)
+  where
+    go : (x y : Bool) → leb 0x20 b ≡ x → leb b 0x7E ≡ y → ((x && y) && not (eqb b 0x22)) ≡ false
+    go true true p q = absurd (out (leb-true 0x20 b p) (leb-true b 0x7E q))
+    go true false p q = refl
+    go false y p q = refl
 
 abbrev InnerParts : ℕ → Type 0
 InnerParts b = (b ≡ 0x0D) ⊎ ((0x20 ≤ b) × (b ≤ 0x7E) × (b ≡ 0x22 → ⊥))

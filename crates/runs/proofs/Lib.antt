@@ -1,3 +1,4 @@
+pub mod Blocks
 pub mod Bytes
 pub mod Lines
 pub mod Runs

@@ -1,57 +1,72 @@
 -- Line feeds from a place on, and what stands behind the last of them.
-use Prim.Native.Nat.{ℕ, suc, ◌+◌, ◌-◌, ◌≤◌, ◌<◌}
+use Prim.Native.Nat.{ℕ, suc, ◌+◌, ◌≤◌, ◌<◌}
 use native.Mathlib.Numerals.{add-one}
 use native.Mathlib.Omega.{arith}
-use mathlib.Core.Path.{◌≡◌, refl, sym, ap, ◌∙◌}
-use mathlib.Core.Bool.{false, cond}
-use mathlib.Core.List.{◌∷◌, ◌++◌}
+use mathlib.Core.Path.{◌≡◌, refl, ap, ◌∙◌}
+use mathlib.Core.Bool.{Bool, true, false, cond, not}
+use mathlib.Core.List.{[], ◌∷◌, reverse}
 use lib.Dec.{eqb}
-use lib.ListN.{length, get_or, take, drop, drop_of_length-le, length-drop, take-append-drop}
-use lib.Seq.{drop-cons, drop-drop}
-use borrow.Author.Tests.{ne_eqb}
+use lib.ListN.{length, get_or, drop, drop_of_length-le}
+use lib.Seq.{drop-cons}
+use mir.Val.{bool_byte}
+use borrow.Author.Tests.{ne_eqb, eq-eqb, eqb-true, eqb-false}
+use Rattle.std.proofs.lemmas.Grind.{reverse_onto}
+use Rattle.std.proofs.lemmas.List.{length-reverse}
+use Rattle.std.proofs.lemmas.List.Folds.{prefix_len-append}
+use Rattle.std.proofs.lemmas.List.Sums.{prefix_len-le-length}
+use Rattle.std.specs.List.{prefix_len}
 use Rattle.format.specs.Table.{Bytes}
 use Rattle.format.specs.Place.{line_feeds, since_lf}
-use Rattle.format.proofs.Places.{line_feeds-append, feeds-nil, feeds-byte, feeds-lf, since_lf-append, since_none, since-on}
+use Rattle.format.proofs.Places.{feeds-nil, feeds-byte}
 
-pub feeds-more : (s : Bytes) (i : ℕ) → i < length s → line_feeds (drop i s) ≡ cond (eqb (get_or s i 0) 0x0A) 1 0 + line_feeds (drop (i + 1) s)
-feeds-more s i h = rw (add-one, drop-cons s i 0, feeds-byte (get_or s i 0) (drop (suc i) s))
+pub feeds-more :
+    (s : Bytes) (i v : ℕ) → i < length s → v ≡ bool_byte (eqb (get_or s i 0) 0x0A) → (v ≤ 1) × (line_feeds (drop i s) ≡ v + line_feeds (drop (i + 1) s))
+feeds-more s i v h e = rw (add-one, drop-cons s i 0, feeds-byte (get_or s i 0) (drop (suc i) s), e) (go (eqb (get_or s i 0) 0x0A))
+  where
+    go : (x : Bool) → (bool_byte x ≤ 1) × (cond x 1 0 + line_feeds (drop (suc i) s) ≡ bool_byte x + line_feeds (drop (suc i) s))
+    go true = (omega arith, refl)
+    go false = (omega arith, refl)
 
 pub feeds-none : (s : Bytes) (i : ℕ) → length s ≤ i → line_feeds (drop i s) ≡ 0
 feeds-none s i h = rw (drop_of_length-le s h, feeds-nil)
 
--- such bytes behind an LF
-since-behind : (a f : Bytes) → line_feeds f ≡ 0 → since_lf (a ++ (0x0A ∷ f)) ≡ f
-since-behind a f e =
-    let some : eqb (line_feeds (0x0A ∷ f)) 0 ≡ false = rw (feeds-lf 0x0A f refl, e) in
-    since_lf-append a (0x0A ∷ f) ∙ rw (some, since-on 0x0A f some) (since_none f e)
+-- from the end, as many bytes are no LF as stand behind the last; they are all where there is none
+record Ends (f : Bytes) : Type 0 where
+  count : prefix_len (λ b. not (eqb b 0x0A)) (reverse f) ≡ length (since_lf f)
+  whole : eqb (prefix_len (λ b. not (eqb b 0x0A)) (reverse f)) (length f) ≡ eqb (line_feeds f) 0
 
-parted : (s : Bytes) (a b : ℕ) → a ≤ b → drop a s ≡ take (b - a) (drop a s) ++ drop b s
-parted s a b h =
-    let to : a + (b - a) ≡ b = omega arith in
-    sym (take-append-drop (b - a) (drop a s))
-    ∙ ap (λ (r : Bytes). take (b - a) (drop a s) ++ r) (drop-drop (b - a) a s ∙ ap (λ (j : ℕ). drop j s) to)
+ends : (f : Bytes) → Ends f
+unfolding since_lf line_feeds
+ends [] = record { count = refl; whole = refl }
+ends (b ∷ f) = go (eqb b 0x0A) (eqb (line_feeds f) 0) refl refl (ends f)
+  where
+    n : ℕ
+    n = prefix_len (λ b. not (eqb b 0x0A)) (reverse f)
 
--- a walk from the end of a part stands at i: no LF stands from there on
-abbrev pub NoLf : Bytes → ℕ → ℕ → Type 0
-NoLf s from i = (i ≤ length s) × (length s - i ≤ length s - from) × (line_feeds (drop i s) ≡ 0)
+    more : prefix_len (λ b. not (eqb b 0x0A)) (reverse (b ∷ f)) ≡ cond (eqb n (length f)) (length f + cond (not (eqb b 0x0A)) (1 + 0) 0) n
+    more = rw (reverse_onto f b [], prefix_len-append, length-reverse)
 
-module _ (s : Bytes) (from i : ℕ) (h : NoLf s from i) where
-  pub no-lf-more : from < i → (get_or s (i - 1) 0 ≡ 0x0A → ⊥) → NoLf s from (i - 1)
-  no-lf-more l e =
-      let one : i - 1 + 1 ≡ i = omega arith in
-      let none = ne_eqb (get_or s (i - 1) 0) 0x0A e in
-      (omega arith, omega arith, feeds-more s (i - 1) (omega arith) ∙ rw (none, one) (omega (arith, h.2)))
+    go : (x y : Bool) → eqb b 0x0A ≡ x → eqb (line_feeds f) 0 ≡ y → Ends f → Ends (b ∷ f)
+    go true true p q ih =
+        let all = eqb-true n (length f) (ih.whole ∙ q) in
+        let some : eqb (1 + line_feeds f) 0 ≡ false = ne_eqb (1 + line_feeds f) 0 (λ z. omega arith) in
+        record {
+          count = more ∙ rw (ih.whole, q, p, some) (omega (arith, ih.count, all));
+          whole = ap (λ (m : ℕ). eqb m (suc (length f))) more ∙ rw (ih.whole, q, p, some) (ne_eqb (length f + 0) (suc (length f)) (λ z. omega arith));
+        }
+    go false true p q ih =
+        let none : eqb (0 + line_feeds f) 0 ≡ true = eq-eqb (0 + line_feeds f) 0 (omega (arith, eqb-true (line_feeds f) 0 q)) in
+        record {
+          count = more ∙ rw (ih.whole, q, p, none) (omega arith);
+          whole = ap (λ (m : ℕ). eqb m (suc (length f))) more ∙ rw (ih.whole, q, p, none) (eq-eqb (length f + (1 + 0)) (suc (length f)) (omega arith));
+        }
+    go x false p q ih =
+        let some : eqb (cond (eqb b 0x0A) 1 0 + line_feeds f) 0 ≡ false = ne_eqb (cond (eqb b 0x0A) 1 0 + line_feeds f) 0 (λ z. eqb-false (line_feeds f) 0 q (omega arith)) in
+        let few : n ≤ length f = simp length-reverse at (prefix_len-le-length (λ b. not (eqb b 0x0A)) (reverse f)) in
+        record {
+          count = more ∙ rw (ih.whole, q, some) ih.count;
+          whole = ap (λ (m : ℕ). eqb m (suc (length f))) more ∙ rw (ih.whole, q, some) (ne_eqb n (suc (length f)) (λ z. omega arith));
+        }
 
-  pub no-lf-stops : from < i → get_or s (i - 1) 0 ≡ 0x0A → length s - i ≡ length (since_lf (drop from s))
-  no-lf-stops l e =
-      let one : suc (i - 1) ≡ i = omega arith in
-      let lf : drop (i - 1) s ≡ 0x0A ∷ drop i s = rw (drop-cons s (i - 1) 0 (omega arith), e, one) in
-      let before : Bytes = take (i - 1 - from) (drop from s) in
-      let all = parted s from (i - 1) (omega arith) ∙ ap (λ (r : Bytes). before ++ r) lf in
-      sym (ap (λ (f : Bytes). length (since_lf f)) all ∙ ap length (since-behind before (drop i s) h.2) ∙ length-drop i s)
-
-  pub no-lf-end : i ≤ from → length s - i ≡ length (since_lf (drop from s))
-  no-lf-end l =
-      let sum = line_feeds-append (take (from - i) (drop i s)) (drop from s) in
-      let none : line_feeds (drop from s) ≡ 0 = omega (arith, sum, ap line_feeds (parted s i from l), h.2) in
-      omega (arith, ap length (since_none (drop from s) none), length-drop from s)
+pub since-counted : (f : Bytes) → prefix_len (λ b. not (eqb b 0x0A)) (reverse f) ≡ length (since_lf f)
+since-counted f = (ends f).count

@@ -1,12 +1,16 @@
 -- How long the runs are that a walk over a file may pass at once.
-use Rattle.std.specs.Prelude.{ℕ, suc, Bool, true, false, cond, not, ◌&&◌, [], ◌∷◌, eqb}
+use Rattle.std.specs.Prelude.{ℕ, suc, ◌≡◌, Bool, true, false, cond, not, ◌&&◌, [], ◌∷◌, eqb}
+use Rattle.std.specs.List.{prefix_len}
 use Rattle.format.specs.Table.{Bytes}
 use Rattle.format.specs.Dialect.{Dialect, strict, is_wide, Class, text, blank, delimiter, quote, CR, LF, forbidden, class_of}
 
 -- the length of the longest front whose bytes all have a property
 unfoldable pub run : (ℕ → Bool) → Bytes → ℕ
-run p [] = 0
-run p (b ∷ f) = cond (p b) (suc (run p f)) 0
+run p f = prefix_len p f
+
+-- a test whose calls answer by a property of bytes
+abbrev pub Computes : (ℕ → Bool → Type 0) → (ℕ → Bool) → Type 0
+Computes answers p = (b : ℕ) (r : Bool) → answers b r → r ≡ p b
 
 abbrev pub is_text : Class → Bool
 is_text text = true

@@ -4,30 +4,38 @@
 
 #![tactic(auto)]
 
-ghost use Rattle.std.specs.Prelude.{◌≡◌, true, cond, ℕ, ◌+◌, ◌*◌, ◌/◌, ◌<◌, ◌≤◌, leb, length, get_or, drop};
-ghost use Rattle.format.specs.Dialect.{dialect};
+ghost use Rattle.std.specs.Prelude.{◌≡◌, ◌<◌, ◌≤◌, ◌*◌, ◌/◌, ℕ, Bool, length, drop};
+ghost use Rattle.std.specs.List.{list_all};
+ghost use Rattle.format.specs.Meant.{dialect_of};
 ghost use Rattle.format.specs.Place.{line_feeds, since_lf};
-ghost use Rattle.runs.specs.Runs.{run, is_plain, is_inner, pairs, is_break};
+ghost use Rattle.runs.specs.Runs.{run, Computes, is_plain, is_inner, pairs, is_break};
 
-// Whether b is plain text in the dialect of any two bytes.
-pub fn is_plain(delimiter: u8, leniencies: u8, b: u8) -> bool
-    ensures { result ≡ is_plain (dialect delimiter leniencies) b }
+use format::Dialect;
+use steps::Class;
+
+// Whether b is plain text in a dialect.
+#[tactic(auto, unfolding(crate::specs::Runs::is_plain))]
+pub fn is_plain(dialect: Dialect, b: u8) -> bool
+    ensures { result ≡ is_plain (dialect_of dialect) b }
 {
-    (steps::class_of(delimiter, leniencies, b) == steps::TEXT) & !steps::is_wide(b)
+    matches!(steps::class_of(dialect, b), Class::Text) & !steps::is_wide(b)
 }
 
 // How many bytes of plain text stand from a place on.
-pub fn text_run(delimiter: u8, leniencies: u8, s: &[u8], from: usize) -> usize
-    ensures { result ≡ run (is_plain (dialect delimiter leniencies)) (drop from s.now) }
+pub fn text_run(dialect: Dialect, s: &[u8], from: usize) -> usize
+    ensures { result ≡ run (is_plain (dialect_of dialect)) (drop from s.now) }
 {
-    let mut i = from;
-    while i < s.len() {
-        if !is_plain(delimiter, leniencies, s[i]) {
-            return i - from;
-        }
-        i += 1;
-    }
-    i - from
+    bytes_from(s, from)
+        .iter()
+        .take_while(|b| is_plain(dialect, **b))
+        .count()
+}
+
+// The bytes from a place on.
+fn bytes_from(s: &[u8], from: usize) -> &[u8]
+    ensures { result.now ≡ drop from s.now }
+{
+    s.get(from..).unwrap_or(&[])
 }
 
 // Whether b is content between quotes in every dialect, needs no leniency and ends no line. Its class at
@@ -38,128 +46,87 @@ pub fn is_inner(b: u8) -> bool
     (b == 0x0D) | ((0x20 <= b) & (b <= 0x7E) & (b != 0x22))
 }
 
-// Whether the 16 bytes from a place on are all such.
-fn inner_block(s: &[u8], at: usize) -> bool
-    requires { at + 16 ≤ length s.now }
-    ensures { result ≡ leb 16 (run is_inner (drop at s.now)) }
-{
-    let mut all = true;
-    let mut j = 0;
-    while j < 16 {
-        all = all & is_inner(s[at + j]);
-        j += 1;
-    }
-    all
-}
-
 // How many such bytes stand from a place on, in whole blocks of 16.
 pub fn inner_blocks(s: &[u8], from: usize) -> usize
     ensures { result ≡ run is_inner (drop from s.now) / 16 * 16 }
 {
-    if s.len() <= from {
-        return 0;
-    }
-    let mut i = from;
-    while 16 <= s.len() - i {
-        if !inner_block(s, i) {
-            return i - from;
-        }
-        i += 16;
-    }
-    i - from
+    16 * whole_blocks::<16, _>(bytes_from(s, from), is_inner)
+}
+
+// How many whole blocks of N bytes stand at the front whose bytes all pass a test.
+fn whole_blocks<const N: usize, F: Fn(u8) -> bool>(bytes: &[u8], test: F) -> usize
+    requires some { 0 < N }
+    requires small { N ≤ 64 }
+    requires callable { (f : _) (b : _) → F.pre f b }
+    ensures { (p : ℕ → Bool) → Computes (F.post test) p → result ≡ run p bytes.now / N }
+{
+    let (blocks, _) = bytes.as_chunks::<N>();
+    blocks
+        .iter()
+        .take_while(
+            |block|
+                requires { (f : _) (b : _) → F.pre f b }
+                ensures { (p : ℕ → Bool) → Computes (F.post test) p → result ≡ list_all p block.entry.now.now }
+            { all_pass(*block, &test) },
+        )
+        .count()
+}
+
+// Whether all bytes of a block pass a test, with no end before the last, so that blocks become vectors.
+fn all_pass<F: Fn(u8) -> bool>(block: &[u8], test: &F) -> bool
+    requires { (f : _) (b : _) → F.pre f b }
+    ensures { (p : ℕ → Bool) → Computes (F.post test.now) p → result ≡ list_all p block.now }
+{
+    block.iter().fold(true, |all, b| all & test(*b))
 }
 
 // How many such bytes stand from a place on.
 pub fn inner_run(s: &[u8], from: usize) -> usize
     ensures { result ≡ run is_inner (drop from s.now) }
 {
-    let mut i = from + inner_blocks(s, from);
-    while i < s.len() {
-        if !is_inner(s[i]) {
-            return i - from;
-        }
-        i += 1;
-    }
-    i - from
-}
-
-// Whether the 64 bytes from a place on are all quotes.
-fn quote_block(s: &[u8], at: usize) -> bool
-    requires { at + 64 ≤ length s.now }
-    ensures { result ≡ true → (k : ℕ) → k < 64 → get_or s.now (at + k) 0 ≡ 0x22 }
-{
-    let mut all = true;
-    let mut j = 0;
-    while j < 64 {
-        all = all & (s[at + j] == 0x22);
-        j += 1;
-    }
-    all
-}
-
-// How many pairs of quotes stand from a place on, one behind the other, and the count before it.
-fn pairs_on(s: &[u8], at: usize, count: usize) -> usize
-    requires { (at ≤ length s.now) × (count + count ≤ at) }
-    ensures { result ≡ count + pairs (drop at s.now) }
-{
-    let mut i = at;
-    let mut n = count;
-    while 2 <= s.len() - i {
-        if s[i] != 0x22 {
-            return n;
-        }
-        if s[i + 1] != 0x22 {
-            return n;
-        }
-        i += 2;
-        n += 1;
-    }
-    n
+    let passed = inner_blocks(s, from);
+    let rest = bytes_from(bytes_from(s, from), passed);
+    passed + rest.iter().take_while(|b| is_inner(**b)).count()
 }
 
 // How many pairs of quotes stand from a place on, one behind the other. None and one are answered
 // first, and a block is tried only where a quote follows the first pair.
+#[tactic(auto, using(crate::proofs::Runs::pairs_none, crate::proofs::Runs::pairs_one))]
 pub fn pair_run(s: &[u8], from: usize) -> usize
     ensures { result ≡ pairs (drop from s.now) }
 {
-    if s.len() <= from {
-        return 0;
+    let rest = bytes_from(s, from);
+    match rest {
+        [0x22, 0x22, 0x22, ..] => pairs_by_blocks(rest),
+        [0x22, 0x22, ..] => 1,
+        _ => 0,
     }
-    if s.len() - from < 4 {
-        return pairs_on(s, from, 0);
-    }
-    if s[from] != 0x22 {
-        return 0;
-    }
-    if s[from + 1] != 0x22 {
-        return 0;
-    }
-    if s[from + 2] != 0x22 {
-        return 1;
-    }
-    let mut i = from;
-    let mut n = 0;
-    while 64 <= s.len() - i && s[i] == 0x22 && s[i + 32] == 0x22 && quote_block(s, i) {
-        i += 64;
-        n += 32;
-    }
-    pairs_on(s, i, n)
+}
+
+// How many pairs of quotes stand at the front, whole blocks of 64 quotes at once.
+fn pairs_by_blocks(bytes: &[u8]) -> usize
+    ensures { result ≡ pairs bytes.now }
+{
+    let blocks = whole_blocks::<64, _>(bytes, |b| b == 0x22);
+    32 * blocks + pairs_at_front(bytes_from(bytes, 64 * blocks))
+}
+
+// How many pairs of quotes stand at the front.
+fn pairs_at_front(bytes: &[u8]) -> usize
+    ensures { result ≡ pairs bytes.now }
+{
+    let (twos, _) = bytes.as_chunks::<2>();
+    twos.iter()
+        .take_while(|two| matches!(two, [0x22, 0x22]))
+        .count()
 }
 
 // Whether a CR and an LF stand at a place.
+#[tactic(auto, using(crate::proofs::Runs::break_front))]
 pub fn is_break(s: &[u8], at: usize) -> bool
     ensures { result ≡ is_break (drop at s.now) }
 {
-    if s.len() < 2 {
-        return false;
-    }
-    if s.len() - 2 < at {
-        return false;
-    }
-    if s[at] != 0x0D {
-        return false;
-    }
-    s[at + 1] == 0x0A
+    matches!(bytes_from(s, at), [0x0D, 0x0A, ..])
 }
 
 // How many line feeds stand from a place on.
@@ -167,30 +134,19 @@ pub fn line_feeds(s: &[u8], from: usize) -> usize
     ensures { result ≡ line_feeds (drop from s.now) }
 {
     let mut feeds = 0;
-    let mut k = from;
-    while k < s.len() {
-        feeds += one(s[k] == 0x0A);
-        k += 1;
+    for b in bytes_from(s, from) {
+        feeds += usize::from(*b == 0x0A);
     }
     feeds
-}
-
-fn one(x: bool) -> usize
-    ensures { (result ≡ cond x 1 0) × (result ≤ 1) }
-{
-    if x { 1 } else { 0 }
 }
 
 // How many bytes stand behind the last line feed from a place on, or all where there is none.
 pub fn since_lf(s: &[u8], from: usize) -> usize
     ensures { result ≡ length (since_lf (drop from s.now)) }
 {
-    let mut first = s.len();
-    while from < first {
-        if s[first - 1] == 0x0A {
-            return s.len() - first;
-        }
-        first -= 1;
-    }
-    s.len() - first
+    bytes_from(s, from)
+        .iter()
+        .rev()
+        .take_while(|b| **b != 0x0A)
+        .count()
 }

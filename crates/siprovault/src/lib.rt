@@ -13,9 +13,11 @@ ghost use Rattle.jump.specs.Jump.{IndexOutcome, JumpOutcome};
 ghost use Rattle.face.specs.Face.{sv_written_numbers, sv_column_numbers, sv_part_numbers};
 
 use face::{SvColumn, SvPart, SvWritten};
-use format::{Answer, FieldNumber, Indexed, Jumped, RecordNumber};
+use fill::Buffers;
+use format::{Answer, Dialect, FieldNumber, Indexed, Jumped, RecordNumber};
 use output::{Stream, Streamed};
 use state::Check;
+use tables::Table;
 
 // Reads a file in a dialect into three buffers.
 #[unsafe(no_mangle)]
@@ -29,7 +31,11 @@ pub extern "C" fn sv_read(
 ) -> Answer
     ensures { ReadOutcome delimiter leniencies file.now text.old ends.old rows.old result text.new ends.new rows.new }
 {
-    reader::read(file, delimiter, leniencies, text, ends, rows)
+    let dialect = Dialect {
+        delimiter,
+        leniencies,
+    };
+    Answer::from(reader::read(file, dialect, &mut Buffers { text, ends, rows }))
 }
 
 // Reads a strict file into three buffers.
@@ -42,7 +48,7 @@ pub extern "C" fn sv_read_strict(
 ) -> Answer
     ensures { ReadOutcome 0x2C 0 file.now text.old ends.old rows.old result text.new ends.new rows.new }
 {
-    reader::read_strict(file, text, ends, rows)
+    Answer::from(reader::read_strict(file, &mut Buffers { text, ends, rows }))
 }
 
 // Starts a check with a dialect.
@@ -50,7 +56,10 @@ pub extern "C" fn sv_read_strict(
 pub extern "C" fn sv_check_start(delimiter: u8, leniencies: u8) -> Check
     ensures { Started delimiter leniencies result }
 {
-    pieces::start(delimiter, leniencies)
+    pieces::start(Dialect {
+        delimiter,
+        leniencies,
+    })
 }
 
 // Feeds a check a piece, and gives the state behind it.
@@ -66,7 +75,7 @@ pub extern "C" fn sv_check_feed(state: Check, piece: &[u8]) -> Check
 pub extern "C" fn sv_check_ask(state: Check) -> Answer
     ensures { Asked state result }
 {
-    pieces::ask(state)
+    Answer::from(pieces::ask(state))
 }
 
 // Starts a stream with a dialect.
@@ -74,7 +83,10 @@ pub extern "C" fn sv_check_ask(state: Check) -> Answer
 pub extern "C" fn sv_stream_start(delimiter: u8, leniencies: u8) -> Stream
     ensures { StreamStarted delimiter leniencies result }
 {
-    stream::start(delimiter, leniencies)
+    stream::start(Dialect {
+        delimiter,
+        leniencies,
+    })
 }
 
 // Feeds a stream a piece, and puts out what is known.
@@ -88,7 +100,7 @@ pub extern "C" fn sv_stream_feed(
 ) -> Streamed
     ensures { StreamFed state piece.now text.old ends.old rows.old result text.new ends.new rows.new }
 {
-    stream::feed(state, piece, text, ends, rows)
+    stream::feed(state, piece, &mut Buffers { text, ends, rows })
 }
 
 // Closes a stream, both last ends at once.
@@ -110,8 +122,7 @@ pub extern "C" fn sv_write(
 ) -> SvWritten
     ensures { WriteOutcome text.now ends.now rows.now mode out.old (sv_written_numbers result) out.new }
 {
-    let answer = writer::write(text, ends, rows, mode, out);
-    face::written(answer)
+    SvWritten::from(writer::write(&Table { text, ends, rows }, mode, out))
 }
 
 // Finds a column by its name in the header.
@@ -119,7 +130,7 @@ pub extern "C" fn sv_write(
 pub extern "C" fn sv_find_column(text: &[u8], ends: &[u32], rows: &[u32], name: &[u8]) -> SvColumn
     ensures { Searched text.now ends.now rows.now name.now (sv_column_numbers result) }
 {
-    face::found(tables::find_column(text, ends, rows, name))
+    SvColumn::from(Table { text, ends, rows }.find_column(name))
 }
 
 // Says where a field lies in text.
@@ -135,7 +146,7 @@ pub extern "C" fn sv_show(
 {
     let r = RecordNumber(face::at_most(record));
     let c = FieldNumber(face::at_most(column));
-    face::part(tables::locate(text, ends, rows, r, c))
+    SvPart::from(Table { text, ends, rows }.locate(r, c))
 }
 
 // Builds the index of a file in a dialect.
@@ -143,7 +154,11 @@ pub extern "C" fn sv_show(
 pub extern "C" fn sv_index(file: &[u8], delimiter: u8, leniencies: u8, index: &mut [u32]) -> Indexed
     ensures { IndexOutcome delimiter leniencies file.now index.old result index.new }
 {
-    jump::index(file, delimiter, leniencies, index)
+    let dialect = Dialect {
+        delimiter,
+        leniencies,
+    };
+    jump::index(file, dialect, index)
 }
 
 // Says where a record lies in a file, by an index.
@@ -157,5 +172,9 @@ pub extern "C" fn sv_jump(
 ) -> Jumped
     ensures { JumpOutcome delimiter leniencies file.now index.now «record» result }
 {
-    jump::locate(file, delimiter, leniencies, index, record)
+    let dialect = Dialect {
+        delimiter,
+        leniencies,
+    };
+    jump::locate(file, dialect, index, record)
 }

@@ -9,7 +9,6 @@ use borrow.Author.Tests.{eqb-true, eqb-false, ne_eqb}
 use Rattle.format.specs.Table.{Bytes}
 use Rattle.format.specs.Dialect.{dialect}
 use Rattle.format.specs.House.{content_limit}
-use Rattle.steps.specs.Steps.{start}
 use Rattle.runs.specs.Runs.{run, is_plain, is_break}
 use Rattle.format.proofs.Tests.{and_both}
 use Rattle.runs.proofs.Runs.{run_join, run-within, BreakAt, break-at}
@@ -19,6 +18,9 @@ use Rattle.spans.specs.declared.Inside.{Inside}
 use Rattle.spans.specs.declared.Walk.{Walk}
 use Rattle.places.specs.Counters.{counter_limit, spot}
 use Rattle.state.specs.Check.{new_field, opened, placed, noting, fed, fed_all}
+use Rattle.std.specs.Prelude.{Some, None}
+use Rattle.spans.specs.declared.End.{TheVariants.Delimiter, TheVariants.Break, TheVariants.LoneLf}
+use Rattle.spans.specs.declared.Ends.{Ends}
 use Rattle.spans.specs.Walk.{Between, last_line, Level, placed_at, field_on, row_on, start_of, tallied, lone_ends, opening, begun, texted, walked, Closed, end_at, ended_by, Fits, Sized, Walking, Goes, Leading}
 use Rattle.places.proofs.Counting.{spot-flat, spot-lines}
 use Rattle.state.proofs.Between.{fed-at}
@@ -326,35 +328,35 @@ pub one-walk : (c : Check) (s : Bytes) (a : ℕ) (x y : Walk) → Leading c s a 
 one-walk c s a x y g h = g.same ∙ sym h.same
 
 -- from a walk to itself, and to one behind the field that ends at p
-pub stays : (delimiter width : ℕ) (y : Bool) (s : Bytes) (x : Walk) → Goes delimiter width y s x x
-stays delimiter width y s x = record { on = omega arith; goes = λ c d k i a w. w }
+pub stays : (o : Ends) (s : Bytes) (x : Walk) → Goes o s x x
+stays o s x = record { on = omega arith; goes = λ c i a w. w }
 
-module _ (delimiter width : ℕ) (y : Bool) (s : Bytes) (x : Walk) (h : Sized x s) where
+module _ (o : Ends) (s : Bytes) (x : Walk) (h : Sized x s) where
   module _
-      (p m j l : ℕ) (field : get_or s p 0 ≡ delimiter → Goes delimiter width y s x (field_on x (p + 1) m j l))
-      (row : BreakAt s p → x.number + 1 ≡ width → Goes delimiter width y s x (row_on x (p + 2) m l))
-      (lone : get_or s p 0 ≡ 0x0A → y ≡ true → x.number + 1 ≡ width → Goes delimiter width y s x (row_on x (p + 1) m l))
+      (p m j l : ℕ) (field : get_or s p 0 ≡ o.delimiter → Goes o s x (field_on x (p + 1) m j l))
+      (row : BreakAt s p → x.number + 1 ≡ o.width → Goes o s x (row_on x (p + 2) m l))
+      (lone : get_or s p 0 ≡ 0x0A → o.alone ≡ true → x.number + 1 ≡ o.width → Goes o s x (row_on x (p + 1) m l))
     where
-      goes-ended : Goes delimiter width y s x (ended_by x (end_at delimiter width y x.number s p) p m j l)
-      goes-ended = delimited (eqb (get_or s p 0) delimiter) refl
+      goes-ended : Goes o s x (ended_by x (end_at o x.number s p) p m j l)
+      goes-ended = delimited (eqb (get_or s p 0) o.delimiter) refl
         where
-          ended-alone : (z : Bool) → (y && eqb (get_or s p 0) 0x0A) ≡ z → x.number + 1 ≡ width → Goes delimiter width y s x (ended_by x (cond z 3 0) p m j l)
-          ended-alone true e q = let (u, v) = and_both y (eqb (get_or s p 0) 0x0A) e in lone (eqb-true (get_or s p 0) 0x0A v) u q
-          ended-alone false e q = stays delimiter width y s x
+          ended-alone : (z : Bool) → (o.alone && eqb (get_or s p 0) 0x0A) ≡ z → x.number + 1 ≡ o.width → Goes o s x (ended_by x (cond z (Some LoneLf) None) p m j l)
+          ended-alone true e q = let (u, v) = and_both o.alone (eqb (get_or s p 0) 0x0A) e in lone (eqb-true (get_or s p 0) 0x0A v) u q
+          ended-alone false e q = stays o s x
 
-          broken : (z : Bool) → is_break (drop p s) ≡ z → x.number + 1 ≡ width → Goes delimiter width y s x (ended_by x (cond z 2 (cond (y && eqb (get_or s p 0) 0x0A) 3 0)) p m j l)
+          broken : (z : Bool) → is_break (drop p s) ≡ z → x.number + 1 ≡ o.width → Goes o s x (ended_by x (cond z (Some Break) (cond (o.alone && eqb (get_or s p 0) 0x0A) (Some LoneLf) None)) p m j l)
           broken true e q = row (break-at s p e) q
-          broken false e q = ended-alone (y && eqb (get_or s p 0) 0x0A) refl q
+          broken false e q = ended-alone (o.alone && eqb (get_or s p 0) 0x0A) refl q
 
-          last : (z : Bool) → eqb (x.number + 1) width ≡ z → Goes delimiter width y s x (ended_by x (cond z (cond (is_break (drop p s)) 2 (cond (y && eqb (get_or s p 0) 0x0A) 3 0)) 0) p m j l)
-          last true e = broken (is_break (drop p s)) refl (eqb-true (x.number + 1) width e)
-          last false e = stays delimiter width y s x
+          last : (z : Bool) → eqb (x.number + 1) o.width ≡ z → Goes o s x (ended_by x (cond z (cond (is_break (drop p s)) (Some Break) (cond (o.alone && eqb (get_or s p 0) 0x0A) (Some LoneLf) None)) None) p m j l)
+          last true e = broken (is_break (drop p s)) refl (eqb-true (x.number + 1) o.width e)
+          last false e = stays o s x
 
           delimited :
-              (z : Bool) → eqb (get_or s p 0) delimiter ≡ z
-              → Goes delimiter width y s x (ended_by x (cond z 1 (cond (eqb (x.number + 1) width) (cond (is_break (drop p s)) 2 (cond (y && eqb (get_or s p 0) 0x0A) 3 0)) 0)) p m j l)
-          delimited true e = field (eqb-true (get_or s p 0) delimiter e)
-          delimited false e = last (eqb (x.number + 1) width) refl
+              (z : Bool) → eqb (get_or s p 0) o.delimiter ≡ z
+              → Goes o s x (ended_by x (cond z (Some Delimiter) (cond (eqb (x.number + 1) o.width) (cond (is_break (drop p s)) (Some Break) (cond (o.alone && eqb (get_or s p 0) 0x0A) (Some LoneLf) None)) None)) p m j l)
+          delimited true e = field (eqb-true (get_or s p 0) o.delimiter e)
+          delimited false e = last (eqb (x.number + 1) o.width) refl
 
   fits : (p m l : ℕ) → x.start ≤ p → p < length s → x.text + m ≤ p → l ≤ p → Fits x p m l
   fits p m l on v t n =
@@ -369,12 +371,12 @@ module _ (delimiter width : ℕ) (y : Bool) (s : Bytes) (x : Walk) (h : Sized x 
 
   -- a bare field
   pub goes-bare :
-      x.at - x.start ≤ content_limit → Goes delimiter width y s x (ended_by x (end_at delimiter width y x.number s x.at) x.at (x.at - x.start) x.line x.lines)
+      x.at - x.start ≤ content_limit → Goes o s x (ended_by x (end_at o x.number s x.at) x.at (x.at - x.start) x.line x.lines)
   goes-bare l =
       goes-ended x.at (x.at - x.start) x.line x.lines
-      (λ e. record { on = omega arith; goes = λ c d k i a w. bare-field c s a x w l h.inside (e ∙ sym d) })
-      (λ e q. record { on = omega arith; goes = λ c d k i a w. bare-row c s a x w l e.inside e.first e.second (k ∙ sym q) })
-      (λ e z q. record { on = omega arith; goes = λ c d k i a w. bare-lone c s a x w l h.inside e (i ∙ z) (k ∙ sym q) })
+      (λ e. record { on = omega arith; goes = λ c i a w. bare-field c s a x w l h.inside (e ∙ sym (ap (λ (q : Ends). q.delimiter) i)) })
+      (λ e q. record { on = omega arith; goes = λ c i a w. bare-row c s a x w l e.inside e.first e.second (ap (λ (z : Ends). z.width) i ∙ sym q) })
+      (λ e z q. record { on = omega arith; goes = λ c i a w. bare-lone c s a x w l h.inside e (ap (λ (v : Ends). v.alone) i ∙ z) (ap (λ (z : Ends). z.width) i ∙ sym q) })
 
   pub bare-fits : Fits x x.at (x.at - x.start) x.lines
   bare-fits = fits x.at (x.at - x.start) x.lines h.from h.inside (omega (arith, h.text, h.from)) (omega (arith, h.lines, h.from))
@@ -383,18 +385,18 @@ module _ (delimiter width : ℕ) (y : Bool) (s : Bytes) (x : Walk) (h : Sized x 
   module _ (r : Inside) (b : Between s (x.at + 1) r) (g : Closed s r) where
     pub goes-quoted :
         x.at ≡ x.start → get_or s x.at 0 ≡ 0x22
-        → Goes delimiter width y s x (ended_by x (end_at delimiter width y x.number s (r.end + 1)) (r.end + 1) r.content (last_line x.line r) (x.lines + r.lines))
+        → Goes o s x (ended_by x (end_at o x.number s (r.end + 1)) (r.end + 1) r.content (last_line x.line r) (x.lines + r.lines))
     goes-quoted here opens =
         let inside : r.end < length s = omega (arith, g.behind) in
         goes-ended (r.end + 1) r.content (last_line x.line r) (x.lines + r.lines)
-        (λ e. record { on = omega (arith, b.on); goes = λ c d k i a w. quoted-field c s a x w here h.inside opens r b g.limit inside g.quote g.behind (e ∙ sym d) })
+        (λ e. record { on = omega (arith, b.on); goes = λ c i a w. quoted-field c s a x w here h.inside opens r b g.limit inside g.quote g.behind (e ∙ sym (ap (λ (q : Ends). q.delimiter) i)) })
         (λ e q. record {
           on = omega (arith, b.on);
-          goes = λ c d k i a w. quoted-row c s a x w here h.inside opens r b g.limit inside g.quote e.inside e.first e.second (k ∙ sym q);
+          goes = λ c i a w. quoted-row c s a x w here h.inside opens r b g.limit inside g.quote e.inside e.first e.second (ap (λ (z : Ends). z.width) i ∙ sym q);
         })
         (λ e z q. record {
           on = omega (arith, b.on);
-          goes = λ c d k i a w. quoted-lone c s a x w here h.inside opens r b g.limit inside g.quote g.behind e (i ∙ z) (k ∙ sym q);
+          goes = λ c i a w. quoted-lone c s a x w here h.inside opens r b g.limit inside g.quote g.behind e (ap (λ (v : Ends). v.alone) i ∙ z) (ap (λ (z : Ends). z.width) i ∙ sym q);
         })
 
     pub quoted-fits : Fits x (r.end + 1) r.content (x.lines + r.lines)

@@ -154,3 +154,22 @@ pub run_fits : (s : Bytes) (at : ℕ) (x : Inside) (k : ℕ) → Between s at x 
 run_fits s at x k g short h =
     let u = run-within is_inner s x.end k g.within h in
     (omega arith, omega (arith, g.content), omega (arith, g.tail))
+
+-- up to the first mark of a word behind whole blocks
+module _
+    (t : List Bool) (marks : Marks t is_inner) (s : Bytes) (bytes : (j : ℕ) → get_or s j 0 < 256) (at : ℕ) (x : Inside) (g : Between s at x)
+    (k : ℕ) (e : k ≡ run is_inner (drop x.end s) / 16 * 16) (y : Inside) (f : y ≡ run_on x k) (w : ℕ) (v : w ≡ word t (take 16 (drop y.end s)))
+  where
+    pub to-end : w ≡ 0 → (z : Inside) → z ≡ run_on y (length s - y.end) → Between s at z
+    to-end u z q =
+        let b = blocks-on s at x g k e y f in
+        rw q (between_run s at y b.0 (length s - y.end) (without-mark t marks s bytes at y b.0 w v u b.1))
+
+    pub stop-fits : (w ≡ 0 → ⊥) → y.end + count_trailing_zeros 64 w < length s
+    stop-fits u = (before-mark t marks s bytes at y (blocks-on s at x g k e y f).0 w v u).0
+
+    pub to-stop : (w ≡ 0 → ⊥) → (z : Inside) → z ≡ run_on y (count_trailing_zeros 64 w) → Between s at z × (z.end < length s)
+    to-stop u z q =
+        let b = blocks-on s at x g k e y f in
+        let m = before-mark t marks s bytes at y b.0 w v u in
+        rw q (between_run s at y b.0 (count_trailing_zeros 64 w) m.2, m.0)

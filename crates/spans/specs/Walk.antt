@@ -1,5 +1,5 @@
 -- What a walk stands for: content between quotes, or fields and records, gone over in plain numbers.
-use Rattle.std.specs.Prelude.{ℕ, ◌+◌, ◌-◌, ◌≤◌, ◌<◌, min, ◌≡◌, Bool, cond, not, ◌&&◌, eqb, length, get_or, drop}
+use Rattle.std.specs.Prelude.{ℕ, ◌+◌, ◌-◌, ◌≤◌, ◌<◌, min, ◌≡◌, Bool, cond, not, ◌&&◌, eqb, length, get_or, drop, Option, Some, None}
 use Rattle.format.specs.declared.Place.{Place}
 use Rattle.format.specs.Table.{Bytes}
 use Rattle.format.specs.Dialect.{lf, names, dialect}
@@ -15,6 +15,8 @@ use Rattle.state.specs.Check.{new_field, opened, placed, noting, fed_all, jumped
 use Rattle.state.specs.Settled.{Settled}
 use Rattle.spans.specs.declared.Inside.{Inside}
 use Rattle.spans.specs.declared.Walk.{Walk}
+use Rattle.spans.specs.declared.End.{End, TheVariants.Delimiter, TheVariants.Break, TheVariants.LoneLf}
+use Rattle.spans.specs.declared.Ends.{Ends}
 
 -- the bytes of s from a place on that are one jump between quotes, from any such state
 pub record Between (s : Bytes) (at : ℕ) (r : Inside) : Type 0 where
@@ -77,15 +79,23 @@ row_on x next m l = record { at = next; line = next; lines = l + 1; start = next
 abbrev pub lone_ends : Check → Bool
 lone_ends c = names c.leniencies lf && eqb c.used.lf 1
 
--- what ends a field at p, the number of which is n: 1 a delimiter; behind as many fields as a width 2 a line break, 3 an LF alone, where y says that it does; 0
--- nothing such
-abbrev pub end_at : ℕ → ℕ → Bool → ℕ → Bytes → ℕ → ℕ
-end_at delimiter width y n s p =
-    cond (eqb (get_or s p 0) delimiter) 1 (cond (eqb (n + 1) width) (cond (is_break (drop p s)) 2 (cond (y && eqb (get_or s p 0) 0x0A) 3 0)) 0)
+-- what ends fields and records from a state on
+abbrev pub ends_of : Check → Ends
+ends_of c = record { delimiter = c.delimiter; width = c.counts.width; alone = lone_ends c }
+
+-- what ends a field at p, the number of which is n: a delimiter; behind as many fields as the records have a line break, or an LF alone, where one may; or nothing
+-- such
+abbrev pub end_at : Ends → ℕ → Bytes → ℕ → Option End
+end_at e n s p =
+    cond (eqb (get_or s p 0) e.delimiter) (Some Delimiter)
+    (cond (eqb (n + 1) e.width) (cond (is_break (drop p s)) (Some Break) (cond (e.alone && eqb (get_or s p 0) 0x0A) (Some LoneLf) None)) None)
 
 -- a walk behind what ends the field in work so at p, with m bytes of content, on a line that begins at j, behind l line feeds; or where it stands
-abbrev pub ended_by : Walk → ℕ → ℕ → ℕ → ℕ → ℕ → Walk
-ended_by x n p m j l = cond (eqb n 1) (field_on x (p + 1) m j l) (cond (eqb n 2) (row_on x (p + 2) m l) (cond (eqb n 3) (row_on x (p + 1) m l) x))
+abbrev pub ended_by : Walk → Option End → ℕ → ℕ → ℕ → ℕ → Walk
+ended_by x None p m j l = x
+ended_by x (Some Delimiter) p m j l = field_on x (p + 1) m j l
+ended_by x (Some Break) p m j l = row_on x (p + 2) m l
+ended_by x (Some LoneLf) p m j l = row_on x (p + 1) m l
 
 -- no count of it carries over
 pub record Fits (x : Walk) (p m l : ℕ) : Type 0 where
@@ -160,10 +170,10 @@ pub record Walking (c : Check) (s : Bytes) (a : ℕ) (x : Walk) : Type 0 where
   pub plain : x.at - x.start ≤ run (is_plain (dialect c.delimiter c.leniencies)) (drop x.start s)
   pub same : fed_all (begun x a c) (drop x.start s) ≡ fed_all c (drop a s)
 
--- from a walk to one as far or further on, for every state of a delimiter and of a width of records, and in which an LF alone ends one or does not
-pub record Goes (delimiter width : ℕ) (y : Bool) (s : Bytes) (x r : Walk) : Type 0 where
+-- from a walk to one as far or further on, for every state from which such ends fields and records
+pub record Goes (e : Ends) (s : Bytes) (x r : Walk) : Type 0 where
   pub on : x.at ≤ r.at
-  pub goes : (c : Check) → c.delimiter ≡ delimiter → c.counts.width ≡ width → lone_ends c ≡ y → (a : ℕ) → Walking c s a x → Walking c s a r
+  pub goes : (c : Check) → ends_of c ≡ e → (a : ℕ) → Walking c s a x → Walking c s a r
 
 -- a walk from a place on leads from the state that it comes to where the state c led, for every state and place
 pub record Leading (c : Check) (s : Bytes) (a : ℕ) (x : Walk) : Type 0 where

@@ -6,13 +6,12 @@
 #![tactic(auto)]
 
 ghost use Rattle.std.specs.Prelude.{◌+◌, ◌≤◌, ◌<◌, true, ◌≡◌, length, get_or};
-ghost use Rattle.format.specs.Dialect.{dialect};
 ghost use Rattle.format.specs.Memory.{largest32};
-ghost use Rattle.words.specs.Words.{Marks, Stops};
-ghost use Rattle.spans.specs.Walk.{BetweenFrom, Between, run_on, Further, last_line, Level, placed_at, field_on, row_on, Closed, end_at, ended_by, Fits, Sized, Walking, Goes, Leading, lone_ends};
-ghost use Rattle.runs.specs.Runs.{is_inner};
+ghost use Rattle.spans.specs.Walk.{BetweenFrom, Between, run_on, Further, last_line, Level, field_on, row_on, Closed, end_at, ended_by, Fits, Sized, Walking, Goes, Leading, lone_ends, ends_of};
 
+use format::Leniency;
 use state::Check;
+use words::{InnerText, MarkTable, PlainText};
 
 // Bytes between quotes that are one jump: where they end, how much content they are, the line feeds
 // among them, and the bytes behind the last of these, or all.
@@ -39,20 +38,31 @@ pub struct Walk {
     pub text: usize,
 }
 
+// What ends a field: a delimiter; or a line break or an LF alone, which end its record too.
+#[derive(Clone, Copy)]
+enum End {
+    Delimiter,
+    Break,
+    LoneLf,
+}
+
+// What ends the fields and the records of a walk: the delimiter, how many fields a record has, and
+// whether an LF alone ends one.
+#[derive(Clone, Copy)]
+struct Ends {
+    delimiter: u8,
+    width: u32,
+    alone: bool,
+}
+
 // What stands between quotes from a place on, behind the end of the bytes nothing.
 pub fn between_quotes(s: &[u8], at: usize) -> Inside
     ensures { BetweenFrom s.now at result }
 {
     if s.len() < at {
-        return Inside {
-            end: at,
-            content: 0,
-            lines: 0,
-            tail: 0,
-        };
+        return nothing_from(at);
     }
-    let t = words::inner_table();
-    inside_from(&t, s, at)
+    inside_from(&MarkTable::new(InnerText), s, at)
 }
 
 // Walks over fields and records from a place on, as far as they are one jump, from a state that stands
@@ -60,22 +70,16 @@ pub fn between_quotes(s: &[u8], at: usize) -> Inside
 pub fn rows(check: Check, s: &[u8], at: usize) -> Walk
     ensures { Leading check s.now at result }
 {
-    if s.len() < at {
+    if s.len() < at || !is_level(check, s) {
         return start_of(check.field.number.0, at);
     }
-    if !is_level(check, s) {
-        return start_of(check.field.number.0, at);
-    }
-    let t = words::stop_table(check.delimiter, check.leniencies);
-    let inner = words::inner_table();
-    let alone = is_alone(check);
-    walk_on(check, alone, &t, &inner, s, at)
+    walk_on(check, s, at)
 }
 
 // A walk that has passed nothing yet.
 fn start_of(number: u32, at: usize) -> Walk
     ensures value { result ≡ record { at = at; line = at; lines = 0; start = at; rows = 0; fields = 0; number = number; text = 0 } }
-    ensures number_le_largest32 { number ≤ largest32 }
+    ensures number_bound { number ≤ largest32 }
 {
     Walk {
         at,
@@ -97,94 +101,102 @@ fn is_level(check: Check, s: &[u8]) -> bool
     let at_start = (check.refusal == 0) & (check.form == steps::START);
     let empty = (check.field.content == 0) & (check.field.held == 0);
     let d = check.delimiter;
-    let apart = (d != 0x0D) & (d != 0x0A) & (d != 0x22);
+    let apart = (d != b'\r') & (d != b'\n') & (d != b'"');
     let most = places::COUNTER_LIMIT;
     let line = check.here.line.0 <= most;
     let counting = line & (check.counts.records <= most) & (check.counts.width <= most);
     (s.len() <= format::LARGEST_32) & at_start & empty & apart & counting
 }
 
-// Whether an LF alone ends a record, and one did before, so that the walk has nothing to note of it.
-fn is_alone(check: Check) -> bool
-    ensures { result ≡ lone_ends check }
+// What ends fields and records from a state on. An LF alone does if it may and one did before, so that
+// the walk has nothing to note of it.
+fn ends_of(check: Check) -> Ends
+    ensures { result ≡ ends_of check }
 {
-    let lf = steps::allows_lf(check.leniencies);
-    lf & (check.used.lf == 1)
+    let lf = check.dialect().allows(Leniency::Lf);
+    Ends {
+        delimiter: check.delimiter,
+        width: check.counts.width,
+        alone: lf & (check.used.lf == 1),
+    }
 }
 
 // The same from a level state, each record as wide as the first: by words that mark the bytes which are
-// no plain text.
-fn walk_on(
-    check: Check,
-    alone: bool,
-    t: &[bool; 256],
-    inner: &[bool; 256],
-    s: &[u8],
-    at: usize,
-) -> Walk
+// no plain text. A mark may lie behind what was passed since, so no iterator goes over them.
+fn walk_on(check: Check, s: &[u8], at: usize) -> Walk
     requires at_in_bounds { at ≤ length s.now }
-    requires marks { Marks inner.now is_inner }
-    requires level { Level check s.now × Stops t.now (dialect check.delimiter check.leniencies) × (alone ≡ lone_ends check) }
+    requires level { Level check s.now }
     ensures { Walking check s.now at result }
 {
+    let plain = MarkTable::new(PlainText {
+        dialect: check.dialect(),
+    });
+    let inner = MarkTable::new(InnerText);
+    let ends = ends_of(check);
     let mut x = start_of(check.field.number.0, at);
     while x.at < s.len() {
-        let i = x.at;
-        let e = words::block_end(s, i);
-        let mut w = words::marks_64(t, s, i);
+        let e = words::block_end(s, x.at);
+        let mut w = plain.word_at::<64>(s, x.at);
         while w != 0 {
-            let k = u64::trailing_zeros(w);
-            let y = placed_at(x, x.at + (k as usize));
-            x = at_mark(check.delimiter, check.counts.width, alone, inner, y, s);
+            let k = w.trailing_zeros();
+            let y = Walk {
+                at: x.at + (k as usize),
+                ..x
+            };
+            x = at_mark(ends, &inner, y, s);
             if x.at == y.at {
                 return x;
             }
             w = words::shifted(w >> k, x.at - y.at);
         }
-        x = placed_at(x, words::later(x.at, e));
+        x = Walk {
+            at: x.at.max(e),
+            ..x
+        };
     }
     x
 }
 
 // A walk behind the field that ends at the mark where it stands, and behind what ends it; or where it
 // stands.
-fn at_mark(delimiter: u8, width: u32, alone: bool, inner: &[bool; 256], x: Walk, s: &[u8]) -> Walk
-    requires marks { Marks inner.now is_inner }
-    requires sized { Sized x s.now }
-    ensures { Goes delimiter width alone s.now x result }
+fn at_mark(ends: Ends, inner: &MarkTable<InnerText>, x: Walk, s: &[u8]) -> Walk
+    requires { Sized x s.now }
+    ensures { Goes ends s.now x result }
 {
-    let p = x.at;
-    let m = p - x.start;
-    if (format::CONTENT_LIMIT as usize) < m {
+    let content = x.at - x.start;
+    if (format::CONTENT_LIMIT as usize) < content {
         return x;
     }
-    if s[p] == 0x22 {
-        return at_quote(delimiter, width, alone, inner, x, s);
+    if s[x.at] == b'"' {
+        return at_quote(ends, inner, x, s);
     }
-    let n = end_at(delimiter, width, alone, x.number, s, p);
-    ended_by(x, n, p, m, x.line, x.lines)
+    let end = end_at(ends, x.number, s, x.at);
+    ended_by(x, end, x.at, content, x.line, x.lines)
 }
 
 // The same where the field begins with a quote at the mark.
-fn at_quote(delimiter: u8, width: u32, alone: bool, inner: &[bool; 256], x: Walk, s: &[u8]) -> Walk
-    requires marks { Marks inner.now is_inner }
-    requires sized { Sized x s.now × (get_or s.now x.at 0 ≡ 0x22) }
-    ensures { Goes delimiter width alone s.now x result }
+fn at_quote(ends: Ends, inner: &MarkTable<InnerText>, x: Walk, s: &[u8]) -> Walk
+    requires sized { Sized x s.now }
+    requires quote { get_or s.now x.at 0 ≡ 0x22 }
+    ensures { Goes ends s.now x result }
 {
-    let p = x.at;
-    let lines = x.lines;
-    if p != x.start {
+    if x.at != x.start {
         return x;
     }
-    let q = inside_field(inner, s, p + 1);
+    let q = inside_field(inner, s, x.at + 1);
     if !closes(s, q) {
         return x;
     }
-    let z = q.end;
-    let more = q.lines;
-    let e = z + 1;
-    let n = end_at(delimiter, width, alone, x.number, s, e);
-    ended_by(x, n, e, q.content, last_line(x.line, q), lines + more)
+    let behind = q.end + 1;
+    let end = end_at(ends, x.number, s, behind);
+    ended_by(
+        x,
+        end,
+        behind,
+        q.content,
+        last_line(x.line, q),
+        x.lines + q.lines,
+    )
 }
 
 // Whether bytes between quotes are a field's content, which a quote closes that a byte stands behind.
@@ -192,60 +204,42 @@ fn closes(s: &[u8], q: Inside) -> bool
     requires { q.end ≤ length s.now }
     ensures { result ≡ true → Closed s.now q }
 {
-    let z = q.end;
-    if (format::CONTENT_LIMIT as usize) < q.content {
-        return false;
-    }
-    if s.len() - z < 2 {
-        return false;
-    }
-    s[z] == 0x22
+    q.content <= format::CONTENT_LIMIT as usize && 2 <= s.len() - q.end && s[q.end] == b'"'
 }
 
-// What ends a field at a place, if it is so many fields behind the first of its record: 1 a delimiter;
-// behind the last field of a record of a width 2 a line break, and 3 an LF alone, if it does; 0 nothing
-// such.
-fn end_at(delimiter: u8, width: u32, alone: bool, number: usize, s: &[u8], at: usize) -> usize
+// What ends a field at a place, if it is so many fields behind the first of its record: line breaks only
+// behind the last field of a record.
+fn end_at(ends: Ends, number: usize, s: &[u8], at: usize) -> Option<End>
     requires { (at < length s.now) × (number < 18446744073709551615) }
-    ensures { result ≡ end_at delimiter width alone number s.now at }
+    ensures { result ≡ end_at ends number s.now at }
 {
-    if s[at] == delimiter {
-        return 1;
+    if s[at] == ends.delimiter {
+        return Some(End::Delimiter);
     }
-    if number + 1 != width as usize {
-        return 0;
+    if number + 1 != ends.width as usize {
+        return None;
     }
     if runs::is_break(s, at) {
-        return 2;
+        return Some(End::Break);
     }
-    if alone & (s[at] == 0x0A) { 3 } else { 0 }
+    if ends.alone & (s[at] == b'\n') {
+        return Some(End::LoneLf);
+    }
+    None
 }
 
 // A walk behind the field that ends so at a place, with so much content, on a line that begins at a
 // place and behind so many line feeds; or where it stands.
-fn ended_by(x: Walk, n: usize, at: usize, content: usize, line: usize, lines: usize) -> Walk
+fn ended_by(x: Walk, end: Option<End>, at: usize, content: usize, line: usize, lines: usize) -> Walk
     requires { Fits x at content lines }
-    ensures { result ≡ ended_by x n at content line lines }
+    ensures { result ≡ ended_by x end at content line lines }
 {
-    if n == 1 {
-        return field_on(x, at + 1, content, line, lines);
+    match end {
+        Some(End::Delimiter) => field_on(x, at + 1, content, line, lines),
+        Some(End::Break) => row_on(x, at + 2, content, lines),
+        Some(End::LoneLf) => row_on(x, at + 1, content, lines),
+        None => x,
     }
-    if n == 2 {
-        return row_on(x, at + 2, content, lines);
-    }
-    if n == 3 {
-        return row_on(x, at + 1, content, lines);
-    }
-    x
-}
-
-// A walk at another place of the field in work.
-fn placed_at(x: Walk, at: usize) -> Walk
-    ensures { result ≡ placed_at x at }
-{
-    let mut y = x;
-    y.at = at;
-    y
 }
 
 // A walk behind a field of so much content, where the next one begins, on a line that begins at a
@@ -259,10 +253,10 @@ fn field_on(x: Walk, next: usize, content: usize, line: usize, lines: usize) -> 
         line,
         lines,
         start: next,
-        rows: x.rows,
         fields: x.fields + 1,
         number: x.number + 1,
         text: x.text + content,
+        ..x
     }
 }
 
@@ -283,28 +277,33 @@ fn row_on(x: Walk, next: usize, content: usize, lines: usize) -> Walk
     }
 }
 
-// The bytes, pairs of quotes and line feeds from a place on that are content between quotes: whole
-// blocks of bytes, then a word that marks what is no such byte.
-fn inside_from(t: &[bool; 256], s: &[u8], at: usize) -> Inside
-    requires at_in_bounds { at ≤ length s.now }
-    requires marks { Marks t.now is_inner }
-    ensures { Between s.now at result }
+// No bytes yet.
+fn nothing_from(at: usize) -> Inside
+    ensures { result ≡ record { end = at; content = 0; lines = 0; tail = 0 } }
 {
-    let mut x = Inside {
+    Inside {
         end: at,
         content: 0,
         lines: 0,
         tail: 0,
-    };
+    }
+}
+
+// The bytes, pairs of quotes and line feeds from a place on that are content between quotes: whole
+// blocks of bytes, then a word that marks what is no such byte. How far each turn goes is found in it, so
+// no iterator counts the places.
+fn inside_from(inner: &MarkTable<InnerText>, s: &[u8], at: usize) -> Inside
+    requires { at ≤ length s.now }
+    ensures { Between s.now at result }
+{
+    let mut x = nothing_from(at);
     while x.end < s.len() {
-        let k = runs::inner_blocks(s, x.end);
-        let y = run_on(x, k);
-        let w = words::marks_16(t, s, y.end);
+        let y = run_on(x, runs::inner_blocks(s, x.end));
+        let w = inner.word_at::<16>(s, y.end);
         if w == 0 {
             return run_on(y, s.len() - y.end);
         }
-        let n = u64::trailing_zeros(w);
-        let z = run_on(y, n as usize);
+        let z = run_on(y, w.trailing_zeros() as usize);
         x = stop_on(z, s);
         if x.end == z.end {
             return x;
@@ -321,8 +320,8 @@ fn run_on(x: Inside, k: usize) -> Inside
     Inside {
         end: x.end + k,
         content: x.content + k,
-        lines: x.lines,
         tail: x.tail + k,
+        ..x
     }
 }
 
@@ -331,31 +330,29 @@ fn stop_on(x: Inside, s: &[u8]) -> Inside
     requires { (x.end < length s.now) × (x.content ≤ x.end) × (x.lines ≤ x.end) × (x.tail ≤ x.end) }
     ensures { Further s.now x result }
 {
-    let p = x.end;
-    if s[p] == 0x0A {
+    if s[x.end] == b'\n' {
         return Inside {
-            end: p + 1,
+            end: x.end + 1,
             content: x.content + 1,
             lines: x.lines + 1,
             tail: 0,
         };
     }
-    let q = runs::pair_run(s, p);
+    let q = runs::pair_run(s, x.end);
     Inside {
-        end: p + (q + q),
+        end: x.end + (q + q),
         content: x.content + q,
-        lines: x.lines,
         tail: x.tail + (q + q),
+        ..x
     }
 }
 
 // The same, no further than the content of one field can go: what is longer is refused, however it ends.
-fn inside_field(t: &[bool; 256], s: &[u8], at: usize) -> Inside
-    requires at_in_bounds { at ≤ length s.now }
-    requires marks { Marks t.now is_inner }
+fn inside_field(inner: &MarkTable<InnerText>, s: &[u8], at: usize) -> Inside
+    requires { at ≤ length s.now }
     ensures { Between s.now at result }
 {
-    inside_from(t, &s[0..reach(s, at)], at)
+    inside_from(inner, &s[..reach(s, at)], at)
 }
 
 // How far content from a place on can go, each byte of it a pair.
@@ -363,11 +360,8 @@ fn reach(s: &[u8], at: usize) -> usize
     requires { at ≤ length s.now }
     ensures { (at ≤ result) × (result ≤ length s.now) }
 {
-    let most = 2 * (format::CONTENT_LIMIT as usize);
-    if s.len() - at <= most {
-        return s.len();
-    }
-    at + most
+    s.len()
+        .min(at.saturating_add(2 * (format::CONTENT_LIMIT as usize)))
 }
 
 // Where the line begins on which such bytes end, if that on which they begin does so at a place.

@@ -7,7 +7,6 @@ use lib.ListN.{length, get_or, drop}
 use lib.Seq.{drop-cons}
 use Rattle.format.specs.declared.Place.{Place}
 use Rattle.format.specs.Table.{Bytes}
-use Rattle.format.specs.Dialect.{delimiter}
 use Rattle.steps.specs.Steps.{quoted}
 use Rattle.steps.specs.Numbers.{form_number}
 use Rattle.runs.specs.Runs.{run, is_inner, pairs}

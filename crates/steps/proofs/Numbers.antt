@@ -8,8 +8,8 @@ use lib.Dec.{eqb, leb}
 use borrow.Author.Tests.{ne_eqb, le-leb}
 use Rattle.format.specs.Dialect.{Class, text, blank, delimiter, quote, CR, LF, forbidden}
 use Rattle.format.proofs.Classes.{special_class}
-use Rattle.steps.specs.Steps.{Form, start, lead, bare, quoted, shut, tail, cr, is_in_quotes, is_behind_cr, is_blank}
-use Rattle.steps.specs.Numbers.{form_number, class_number, form_of, class_from}
+use Rattle.steps.specs.Steps.{Form, start, lead, bare, quoted, shut, tail, cr, is_in_quotes, is_behind_cr}
+use Rattle.steps.specs.Numbers.{form_number, class_number, form_of}
 
 abbrev six+ : ℕ → ℕ
 six+ n = suc (suc (suc (suc (suc (suc n)))))
@@ -32,10 +32,6 @@ form-at = by_number (λ n. form_number (form_of n) ≡ min n 6) refl refl refl r
 pub form-number : (n : ℕ) → n ≤ 6 → form_number (form_of n) ≡ n
 form-number n h = form-at n ∙ min-eq_left h
 
-pub class-at : (n : ℕ) → class_number (class_from n) ≡ min n 6
-unfolding class_from
-class-at = by_number (λ n. class_number (class_from n) ≡ min n 6) refl refl refl refl refl refl (λ n. sym (min-eq_right (omega arith)))
-
 pub quotes-at : (n : ℕ) → is_in_quotes (form_of n) ≡ (eqb n (form_number quoted) || eqb n (form_number shut))
 unfolding form_of
 quotes-at =
@@ -48,10 +44,6 @@ cr-at = by_number (λ n. is_behind_cr (form_of n) ≡ leb 6 n) refl refl refl re
 
 pub behind-number : (k : Form) → leb (form_number cr) (form_number k) ≡ is_behind_cr k
 behind-number = elim [ start ↦ refl | lead ↦ refl | bare ↦ refl | quoted ↦ refl | shut ↦ refl | tail ↦ refl | cr ↦ refl ]
-
-pub blank-at : (n : ℕ) → is_blank (class_from n) ≡ eqb n (class_number blank)
-unfolding class_from
-blank-at = by_number (λ n. is_blank (class_from n) ≡ eqb n 1) refl refl refl refl refl refl (λ n. sym (ne_eqb (six+ n) 1 (omega arith)))
 
 -- n is none of the numbers below k
 abbrev pub NoneBelow : ℕ → ℕ → Type 0

@@ -1,6 +1,7 @@
--- The numbers by which the code has forms, classes and entries: a form and a class count from 0 in the table's order; an entry is the number of a form,
--- 7 for the end of a record, or 7 + n for refusal n.
-use Rattle.std.specs.Prelude.{ℕ, ◌+◌, ◌-◌, min, Bool, cond, List, [], ◌∷◌, map, eqb, leb, get_or}
+-- What the code has for forms, classes and entries: a form is a number, from 0 in the table's order; a class and an entry have names of their own.
+use Rattle.std.specs.Prelude.{ℕ, min, Bool, List, [], ◌∷◌, map, get_or}
+use Rattle.steps.specs.declared.Class.{Class as Named, TheVariants.Text, TheVariants.Blank, TheVariants.Delimiter, TheVariants.Quote, TheVariants.Cr, TheVariants.Lf, TheVariants.Forbidden}
+use Rattle.steps.specs.declared.Move.{Move as Entry, TheVariants.Start, TheVariants.Lead, TheVariants.Bare, TheVariants.Quoted, TheVariants.Shut, TheVariants.Tail, TheVariants.AfterCr, TheVariants.End, TheVariants.Wrong}
 use Rattle.steps.specs.declared.Stepped.{Stepped, TheVariants.Refuse, TheVariants.Quiet, TheVariants.Put, TheVariants.Hold, TheVariants.Drop, TheVariants.EndField, TheVariants.EndRecord}
 use Rattle.format.specs.Dialect.{Class, text, blank, delimiter, quote, CR, LF, forbidden}
 use Rattle.steps.specs.Steps.{Form, start, lead, bare, quoted, shut, tail, cr, Move, to, end, wrong, next, nothing, put, hold, drop, field_end, record_end, Act, refuse, go, carry}
@@ -14,6 +15,11 @@ form_number shut = 4
 form_number tail = 5
 form_number cr = 6
 
+-- and back; any number from 6 on is the last form
+unfoldable pub form_of : ℕ → Form
+form_of n = get_or (start ∷ lead ∷ bare ∷ quoted ∷ shut ∷ tail ∷ []) n cr
+
+-- and a class as a column of the table
 abbrev pub class_number : Class → ℕ
 class_number text = 0
 class_number blank = 1
@@ -23,20 +29,47 @@ class_number CR = 4
 class_number LF = 5
 class_number forbidden = 6
 
-abbrev pub move_number : Move → ℕ
-move_number (to k) = form_number k
-move_number end = 7
-move_number (wrong n) = 7 + n
+-- the name of a class, and what it means
+abbrev pub class_named : Class → Named
+class_named text = Text
+class_named blank = Blank
+class_named delimiter = Delimiter
+class_named quote = Quote
+class_named CR = Cr
+class_named LF = Lf
+class_named forbidden = Forbidden
 
--- and back; any number from 6 on is the last form, and the last class
-unfoldable pub form_of : ℕ → Form
-form_of n = get_or (start ∷ lead ∷ bare ∷ quoted ∷ shut ∷ tail ∷ []) n cr
+abbrev pub class_meant : Named → Class
+class_meant Text = text
+class_meant Blank = blank
+class_meant Delimiter = delimiter
+class_meant Quote = quote
+class_meant Cr = CR
+class_meant Lf = LF
+class_meant Forbidden = forbidden
 
-unfoldable pub class_from : ℕ → Class
-class_from n = get_or (text ∷ blank ∷ delimiter ∷ quote ∷ CR ∷ LF ∷ []) n forbidden
+-- an entry, and what it means
+abbrev pub move_named : Move → Entry
+move_named (to start) = Start
+move_named (to lead) = Lead
+move_named (to bare) = Bare
+move_named (to quoted) = Quoted
+move_named (to shut) = Shut
+move_named (to tail) = Tail
+move_named (to cr) = AfterCr
+move_named end = End
+move_named (wrong n) = Wrong n
 
-unfoldable pub move_of : ℕ → Move
-move_of n = cond (leb n 6) (to (form_of n)) (cond (eqb n 7) end (wrong (n - 7)))
+abbrev pub move_meant : Entry → Move
+move_meant Start = to start
+move_meant Lead = to lead
+move_meant Bare = to bare
+move_meant Quoted = to quoted
+move_meant Shut = to shut
+move_meant Tail = to tail
+move_meant AfterCr = to cr
+move_meant End = end
+move_meant (Wrong n) = wrong n
 
 -- the code's answer for an act
 abbrev pub coded : Act → Stepped
@@ -65,10 +98,10 @@ forms = start ∷ lead ∷ bare ∷ quoted ∷ shut ∷ tail ∷ cr ∷ []
 abbrev pub classes : List Class
 classes = text ∷ blank ∷ delimiter ∷ quote ∷ CR ∷ LF ∷ forbidden ∷ []
 
--- the table, in numbers
-unfoldable pub step_table : List (List ℕ)
-step_table = map (λ k. map (λ x. move_number (next k x)) classes) forms
+-- the table, in the code's entries
+unfoldable pub step_table : List (List Entry)
+step_table = map (λ k. map (λ x. move_named (next k x)) classes) forms
 
 -- a step by any table: its entry, carried out
-unfoldable pub step_by : List (List ℕ) → Bool → ℕ → ℕ → Stepped
-step_by t lf form class = coded (carry lf (form_of form) (class_from class) (move_of (get_or (get_or t (min form 6) []) (min class 6) 0)))
+unfoldable pub step_by : List (List Entry) → Bool → ℕ → Class → Stepped
+step_by t lf form x = coded (carry lf (form_of form) x (move_meant (get_or (get_or t (min form 6) []) (class_number x) Start)))

@@ -6,59 +6,57 @@
 
 #![tactic(auto)]
 
+ghost use Rattle.fill.specs.Buffers.{SameBuffers, lists};
 ghost use Rattle.output.specs.Promises.{Started, Fed};
-ghost use Rattle.taking.specs.Walk.{stop_at, Grew};
+ghost use Rattle.taking.specs.Walk.{begun, stop_at, Grew};
 
-use output::{Stream, Streamed};
+use fill::Buffers;
+use format::Dialect;
+use output::{Buffer, Stream, Streamed};
 use taking::Flow;
 
 // A stream of a dialect, before any byte.
-pub fn start(delimiter: u8, leniencies: u8) -> Stream
-    ensures { Started delimiter leniencies result }
+pub fn start(dialect: Dialect) -> Stream
+    ensures { Started dialect.delimiter dialect.leniencies result }
 {
-    let check = pieces::start(delimiter, leniencies);
-    output::onward_from(check)
+    Stream::onward(pieces::start(dialect))
 }
 
 // Takes what it can of a piece, and puts out what is known.
-pub fn feed(
-    s: Stream,
-    piece: &[u8],
-    text: &mut [u8],
-    ends: &mut [u32],
-    rows: &mut [u32],
-) -> Streamed
-    ensures { Fed s piece.now text.old ends.old rows.old result text.new ends.new rows.new }
+pub fn feed(s: Stream, piece: &[u8], to: &mut Buffers) -> Streamed
+    ensures same { SameBuffers to.old to.new }
+    ensures fed { Fed s piece.now to.old.text.now to.old.ends.now to.old.rows.now result to.new.text.now to.new.ends.now to.new.rows.now }
 {
-    let q = flowed(s, piece, text, ends, rows);
-    output::told(q.state, q.taken, q.text, q.ends, q.rows, q.short)
+    let flow = flowed(s, piece, to);
+    Streamed {
+        taken: flow.taken,
+        text: flow.text,
+        ends: flow.ends,
+        rows: flow.rows,
+        short: flow.short.map_or(0, Buffer::number),
+        ..flow.state.told()
+    }
 }
 
 // The walk over a piece: as many bytes as can be taken at once, then one, and so on. A part that was too
-// long, since it would show a refusal, is tried again at half its length; one that went well, at twice.
-fn flowed(s: Stream, piece: &[u8], text: &mut [u8], ends: &mut [u32], rows: &mut [u32]) -> Flow
-    ensures { Grew piece.now (record { state = s; taken = 0; text = 0; ends = 0; rows = 0; short = 0 }) text.old ends.old rows.old result text.new ends.new rows.new (stop_at result) }
+// long, since it would show a refusal, is tried again at half its length; one that went well, at twice. How
+// far each turn goes is found in it, so no iterator counts the places.
+fn flowed(s: Stream, piece: &[u8], to: &mut Buffers) -> Flow
+    ensures same { SameBuffers to.old to.new }
+    ensures grew { Grew piece.now (begun s) (lists to.old) result (lists to.new) (stop_at result) }
 {
-    let mut h = Flow {
-        state: s,
-        taken: 0,
-        text: 0,
-        ends: 0,
-        rows: 0,
-        short: 0,
-    };
+    let mut flow = Flow::new(s);
     let mut most = MOST;
-    while h.taken < piece.len() {
-        let from = h.taken;
-        h = parts::passed(h, most, piece, text, ends, rows);
-        let at = h.taken;
-        most = next_most(most, at == from);
-        h = taking::take_byte(h, piece, text, ends, rows);
-        if h.taken == at {
-            return h;
+    while flow.taken < piece.len() {
+        let part = parts::passed(flow, most, piece, to);
+        most = next_most(most, part.is_some());
+        let before = part.unwrap_or(flow);
+        flow = before.take_byte(piece, to);
+        if flow.taken == before.taken {
+            return flow;
         }
     }
-    taking::take_byte(h, piece, text, ends, rows)
+    flow.take_byte(piece, to)
 }
 
 // Parts are of no more bytes than these, and of some.
@@ -66,13 +64,13 @@ const MOST: usize = 65536;
 
 const SOME: usize = 16;
 
-// The longest part to try behind one that stayed, or that was taken.
-fn next_most(most: usize, stayed: bool) -> usize {
+// The longest part to try behind one that was taken, or that was not.
+fn next_most(most: usize, was_taken: bool) -> usize {
     if most < SOME {
-        return SOME + SOME;
+        2 * SOME
+    } else if was_taken {
+        most.saturating_mul(2).min(MOST)
+    } else {
+        most / 2
     }
-    if stayed {
-        return most / 2;
-    }
-    if MOST <= most { most } else { most + most }
 }

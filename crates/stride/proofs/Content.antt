@@ -1,13 +1,14 @@
 -- A field of plain text in the second walk, bare or quoted, and what its end changes.
+use Rattle.std.specs.Prelude.{Some}
 use Prim.Native.Nat.{ℕ, ◌+◌, ◌-◌, ◌≤◌, ◌<◌}
 use native.Mathlib.Numerals.{add-one}
 use native.Mathlib.Omega.{arith}
 use mathlib.Core.Path.{◌≡◌, refl, sym, ap, ◌∙◌}
 use mathlib.Core.Bool.{Bool, true, false}
 use mathlib.Core.List.{List, ◌∷◌, ◌++◌}
-use lib.Dec.{T, eqb}
-use lib.ListN.{length, get_or, take, drop}
-use lib.Seq.{drop-cons, drop-drop}
+use lib.Dec.{T}
+use lib.ListN.{length, get_or, take, drop, length-drop}
+use lib.Seq.{drop-cons, drop-drop, length-take-le}
 use Rattle.format.specs.Table.{Bytes}
 use Rattle.format.specs.Dialect.{lf, Dialect, text, delimiter, CR, class_of}
 use Rattle.steps.specs.Steps.{Form, start, bare, quoted, shut, cr, nothing, put, field_end, go, step_of}
@@ -21,12 +22,12 @@ use Rattle.runs.proofs.Bytes.{plain-class}
 use Rattle.fill.specs.declared.Head.{Head}
 use Rattle.fill.specs.declared.Field.{Field}
 use Rattle.fill.specs.Fill.{text_left, ends_left, rows_left}
-use Rattle.fill.specs.Put.{end_of}
 use Rattle.fill.specs.Walk.{NoQuote}
 use Rattle.fill.proofs.Left.{text_byte, ends-byte, rows-byte}
 use Rattle.fill.proofs.Copy.{text-run, ends-run, rows_run, two_at}
 use Rattle.inside.proofs.Quoted.{puts-inner}
-use Rattle.stride.specs.Stride.{Ends, EndAt, delimits, breaks, Plain, Found}
+use Rattle.stride.specs.Stride.{Ends, EndAt, delimits, breaks, length_of, is_record_end, Plain, Found}
+use Rattle.stride.specs.declared.Ending.{Ending as Named, TheVariants.Delimiter, TheVariants.Break as CRLF}
 
 -- a form in which a field may end
 pub record Ending (y : Bool) (k : Form) : Type 0 where
@@ -192,12 +193,31 @@ module _ (d : Dialect) (f : Bytes) (p : Head) (e₁ : p.form ≡ form_number sta
         rows_are = λ w. rw (e₁, form-back start) (o.rows_to w p.ends _ (λ j x s. break-rows d f e q j s w p.ends x) p.begun);
       }
 
-  pub ends_at : (d.delimiter_byte ≡ 0x0A → ⊥) → {n : ℕ} → EndAt f d.delimiter_byte e n → Ends d f p (take k (drop c f)) (e + n) (eqb n 2) (p.text + k)
+  pub ends_at : (d.delimiter_byte ≡ 0x0A → ⊥) → {n : Named} → EndAt f d.delimiter_byte e n → Ends d f p (take k (drop c f)) (e + length_of n) (is_record_end n) (p.text + k)
   ends_at z (delimits v q) = ends-field v q
   ends_at z (breaks q g) = let b = break-at f e q in ends-record (record { here = b; no_cr = λ x. g (b.first ∙ sym x); no_lf = z })
 
+-- a field found with its content
+pub found :
+    {d : Dialect} {f : Bytes} {p : Head} {q c k e : ℕ} {x : Field} {n : Named}
+    → (Plain d f p q → Content d f p.at c k e) → q ≤ e → EndAt f d.delimiter_byte e n → x.content.now ≡ take k (drop c f) → x.next ≡ e + length_of n → x.row ≡ is_record_end n
+    → Found d f p q (Some x)
+found {d} {f} {p} {q} {c} {k} {e} {x} {n} content l g e₁ e₂ e₃ =
+    record {
+      further = λ h. omega (arith, some n, e₂);
+      ends =
+          λ h.
+          let o = content h in
+          let size = length-take-le k (drop c f) (omega (arith, o.within, length-drop c f)) in
+          rw (e₁, e₂, e₃, size) (ends_at d f p h.form h.held c k e o h.no_lf g);
+    }
+  where
+    some : (m : Named) → 1 ≤ length_of m
+    some Delimiter = omega arith
+    some CRLF = omega arith
+
 -- any two fields that are found end at one place of the text
 pub one_found :
-    {d : Dialect} {f : Bytes} {p : Head} {q : ℕ} {r s : Field} → Found d f p q r → Found d f p q s → Plain d f p q → r.from ≤ r.to → s.from ≤ s.to
-    → end_of p r ≡ end_of p s
-one_found g h o l m = ap (λ (e : List ℕ). get_or e 0 0) (sym ((g.ends o l).ends_are true) ∙ (h.ends o m).ends_are true)
+    {d : Dialect} {f : Bytes} {p : Head} {q : ℕ} {r s : Field} → Found d f p q (Some r) → Found d f p q (Some s) → Plain d f p q
+    → p.text + length r.content.now ≡ p.text + length s.content.now
+one_found g h o = ap (λ (e : List ℕ). get_or e 0 0) (sym ((g.ends o).ends_are true) ∙ (h.ends o).ends_are true)

@@ -1,33 +1,29 @@
 -- The second walk, byte by byte: what each act does to what is ahead, and what is written at once.
-use Prim.Native.Nat.{ℕ, ◌+◌, ◌-◌, ◌≤◌, ◌<◌}
-use mathlib.Core.Path.{◌≡◌, refl, ap, ◌∙◌}
-use mathlib.Core.Bool.{Bool, true, false, cond, false≢true}
-use mathlib.Core.List.{List, [], ◌∷◌, ◌++◌}
+use Rattle.std.specs.Prelude.{Option, Some, None, IfSome, IfNone}
+use Prim.Native.Nat.{ℕ, ◌+◌, ◌≤◌, ◌<◌}
+use mathlib.Core.Path.{◌≡◌, refl, sym, ap, ◌∙◌}
+use mathlib.Core.Bool.{Bool, true, false, cond}
+use mathlib.Core.List.{List, [], ◌∷◌, ◌++◌, append_assoc}
 use native.Mathlib.Numerals.{add-one}
 use native.Mathlib.Omega.{arith}
-use lib.Dec.{ltb}
-use borrow.Author.Tests.{ltb-true, ltb-false, lt-ltb, le-ltb}
-use lib.ListN.{length, drop, take, set, get_or, replicate, length-append, length-drop, length-replicate}
-use lib.Seq.{sets, drop-cons, drop-length, length-sets, length-take-le}
+use lib.ListN.{length, drop, get_or, replicate, length-append, length-replicate}
+use lib.Seq.{drop-cons, drop-length}
 use Rattle.format.specs.Table.{Bytes}
 use Rattle.format.specs.Dialect.{lf, Dialect, class_of}
-use Rattle.steps.specs.Steps.{Form, start, put, hold, field_end, record_end, Act, refuse, go, step_of}
+use Rattle.steps.specs.Steps.{Form, start, nothing, put, hold, drop as dropped, field_end, record_end, Act, refuse, go, step_of}
 use Rattle.steps.specs.Numbers.{form_of}
 use Rattle.steps.proofs.Rules.{form-back}
 use Rattle.fill.specs.declared.Head.{Head}
-use Rattle.fill.specs.declared.Field.{Field}
 use Rattle.fill.specs.Fill.{text_by, ends_by, rows_by, text_left, ends_left, rows_left}
-use Rattle.fill.specs.Put.{end_fits, end_of, field_fits, behind, rows_with}
+use Rattle.fill.specs.Buffers.{Lists}
+use Rattle.fill.specs.Put.{Puts, EndFits, PutsEnd, PutsField, rows_with}
 use Rattle.fill.specs.Walk.{text_ahead, ends_ahead, rows_ahead, Grown, Wrote}
 use Rattle.fill.proofs.Left.{text-none, text_byte, ends-none, ends-byte, rows_none, rows-byte}
-use Rattle.fill.proofs.Grown.{grown-none, grown-one, grown-list, grown-all, grown-size, grown-then, wrote_none}
-use Rattle.fill.proofs.Put.{EndRoom, end-room, room-end, field_room}
+use Rattle.fill.proofs.Grown.{grown-none, grown-one, grown-list, grown-all, grown-size}
 use Rattle.stride.specs.Stride.{Ample, Ends}
 
 -- room for what is ahead stays
-pub ample-on :
-    {w : Bool} {d : Dialect} {f : Bytes} {p q : Head} {text ends rows text' ends' rows' : List ℕ} → Wrote w d f p text ends rows q text' ends' rows'
-    → Ample w d f p text ends rows → Ample w d f q text' ends' rows'
+pub ample-on : {w : Bool} {d : Dialect} {f : Bytes} {p q : Head} {b b' : Lists} → Wrote w d f p b q b' → Ample w d f p b → Ample w d f q b'
 ample-on g h =
     let t = grown-all g.text_on in
     let u = grown-all g.ends_on in
@@ -42,78 +38,64 @@ ample-on g h =
     }
 
 -- a field that ends, written
-ends-wrote :
-    {w : Bool} {d : Dialect} {f : Bytes} {p : Head} {c : Bytes} {next : ℕ} {row : Bool} {n : ℕ} (text ends rows : List ℕ) → Ends d f p c next row n
-    → EndRoom p n row (length ends) (length rows) → n ≡ p.text + length c → length c ≤ length text - p.text
-    → Wrote w d f p text ends rows (behind p next row n) (sets text p.text c) (set ends p.ends n) (rows_with p row rows)
-ends-wrote {w} {d} {f} {p} {c} {next} {row} {n} text ends rows h r e l =
-    let further = h.further in
-    record {
-      on = omega arith;
-      inside = λ i. h.inside;
-      held = omega arith;
-      text_on = record { new = c; rest_is = h.text_is; room = l; buf_is = refl; at_is = e };
-      ends_on = grown-one r.ends_room (h.ends_are w);
-      rows_on = by row r.rows_room (h.rows_are w);
-    }
-  where
-    by : (x : Bool) → (x ≡ true → p.rows < length rows) → rows_ahead w d f p ≡ cond x ((p.ends + 1) ∷ []) [] ++ rows_ahead w d f (behind p next row n)
-        → Grown rows p.rows (rows_ahead w d f p) (rows_with p x rows) (p.rows + cond x 1 0) (rows_ahead w d f (behind p next row n))
-    by true k q = grown-one (k refl) q
-    by false k q = let z : p.rows + 0 ≡ p.rows = omega arith in rw z (grown-none q)
+rows-grown :
+    (p : Head) (row : Bool) {buf rest rest' : List ℕ} → (row ≡ true → p.rows < length buf) → rest ≡ cond row ((p.ends + 1) ∷ []) [] ++ rest'
+    → Grown buf p.rows rest (rows_with p row buf) (p.rows + cond row 1 0) rest'
+rows-grown p true h e = grown-one (h refl) e
+rows-grown p false h e = let z : p.rows + 0 ≡ p.rows = omega arith in rw z (grown-none e)
 
--- by put_field and by put_end
-pub field-wrote :
-    {w : Bool} {d : Dialect} {f : Bytes} (p : Head) (x : Field) (text ends rows : List ℕ)
-    → (x.from ≤ x.to → Ends d f p (take (x.to - x.from) (drop x.from f)) x.next x.row (end_of p x))
-    → (y : Bool) → field_fits p x (length f) (length text) (length ends) (length rows) ≡ y
-    → Wrote w d f p text ends rows (cond y (behind p x.next x.row (end_of p x)) p) (cond y (sets text p.text (take (x.to - x.from) (drop x.from f))) text) (cond y (set ends p.ends (end_of p x)) ends) (cond y (rows_with p x.row rows) rows)
-field-wrote {f = f} p x text ends rows h true q =
-    let r = field_room p x (length f) (length text) (length ends) (length rows) q in
-    let order = r.order in
-    let inside = r.inside in
-    let n = length-take-le (x.to - x.from) (drop x.from f) (rw (length-drop x.from f) (omega arith)) in
-    ends-wrote text ends rows (h order) r.end (omega (arith, n)) (omega (arith, n, r.text_room))
-field-wrote p x text ends rows h false q = wrote_none
+module _ {w : Bool} {d : Dialect} {f : Bytes} {p : Head} {next : ℕ} {row : Bool} {b b' : Lists} {q : Head} where
+  pub field-wrote : {c : Bytes} → Ends d f p c next row (p.text + length c) → PutsField p c next row b (Some q) b' → Wrote w d f p b q b'
+  field-wrote {c} h g =
+      let n = p.text + length c in
+      let further = h.further in
+      let fits = g.head.0 in
+      rw (g.head.1, g.written)
+      (record {
+        on = omega arith;
+        inside = λ i. h.inside;
+        held = omega arith;
+        text_on = record { new = c; rest_is = h.text_is; room = omega (arith, fits.text_room); buf_is = refl; at_is = refl };
+        ends_on = grown-one fits.end_fits.end_room (h.ends_are w);
+        rows_on = rows-grown p row fits.end_fits.row_room (h.rows_are w);
+      })
 
-pub field_put :
-    {w : Bool} {d : Dialect} {f : Bytes} (p : Head) (x : Field) (text ends rows : List ℕ)
-    → (x.from ≤ x.to → Ends d f p (take (x.to - x.from) (drop x.from f)) x.next x.row (end_of p x))
-    → {r : Head} {text' ends' rows' : List ℕ}
-    → let y = field_fits p x (length f) (length text) (length ends) (length rows) in
-    r ≡ cond y (behind p x.next x.row (end_of p x)) p → text' ≡ cond y (sets text p.text (take (x.to - x.from) (drop x.from f))) text
-    → ends' ≡ cond y (set ends p.ends (end_of p x)) ends → rows' ≡ cond y (rows_with p x.row rows) rows → Wrote w d f p text ends rows r text' ends' rows'
-field_put p x text ends rows h e₁ e₂ e₃ e₄ = rw (e₁, e₂, e₃, e₄) (field-wrote p x text ends rows h _ refl)
-
-pub end-wrote :
-    {w : Bool} {d : Dialect} {f : Bytes} (p : Head) (next : ℕ) (row : Bool) (text ends rows : List ℕ) → Ends d f p [] next row p.text
-    → (y : Bool) → end_fits p p.text row (length ends) (length rows) ≡ y
-    → Wrote w d f p text ends rows (cond y (behind p next row p.text) p) text (cond y (set ends p.ends p.text) ends) (cond y (rows_with p row rows) rows)
-end-wrote p next row text ends rows h true q = ends-wrote text ends rows h (end-room p p.text row (length ends) (length rows) q) (omega arith) (omega arith)
-end-wrote p next row text ends rows h false q = wrote_none
-
-pub end-put :
-    {w : Bool} {d : Dialect} {f : Bytes} (p : Head) (next : ℕ) (row : Bool) (text ends rows : List ℕ) → Ends d f p [] next row p.text
-    → {r : Head} {ends' rows' : List ℕ}
-    → let y = end_fits p p.text row (length ends) (length rows) in
-    r ≡ cond y (behind p next row p.text) p → ends' ≡ cond y (set ends p.ends p.text) ends → rows' ≡ cond y (rows_with p row rows) rows
-    → Wrote w d f p text ends rows r text ends' rows'
-end-put p next row text ends rows h e₁ e₂ e₃ = rw (e₁, e₂, e₃) (end-wrote p next row text ends rows h _ refl)
+  pub end-wrote : Ends d f p [] next row p.text → PutsEnd p next row p.text b (Some q) b' → Wrote w d f p b q b'
+  end-wrote h g =
+      let further = h.further in
+      let fits = g.head.0 in
+      rw (g.head.1, g.written)
+      (record {
+        on = omega arith;
+        inside = λ i. h.inside;
+        held = omega arith;
+        text_on = grown-none h.text_is;
+        ends_on = grown-one fits.end_room (h.ends_are w);
+        rows_on = rows-grown p row fits.row_room (h.rows_are w);
+      })
 
 -- where there is room for what is ahead, an end fits
 pub end-fits :
-    {w : Bool} {d : Dialect} {f : Bytes} {p : Head} {next : ℕ} {row : Bool} {text ends rows : List ℕ} → Ends d f p [] next row p.text
-    → Ample w d f p text ends rows → end_fits p p.text row (length ends) (length rows) ≡ true
-end-fits {w} {d} {f} {p} {next} {row} {text} {ends} {rows} h m =
+    {w : Bool} {d : Dialect} {f : Bytes} {p : Head} {next : ℕ} {row : Bool} {b : Lists} → Ends d f p [] next row p.text → Ample w d f p b → EndFits p row p.text b
+end-fits {w} {row} h m =
     let e = ap length (h.ends_are w) in
     let small = m.text_small in
-    room-end p p.text row (length ends) (length rows)
-    (record {
-      ends_room = omega (arith, e, m.ends_room);
+    record {
+      end_room = omega (arith, e, m.ends_room);
+      row_room = λ q. omega (arith, ap length (rw q at (h.rows_are w)), m.rows_room);
       small = omega arith;
       few = omega (arith, e, m.ends_small);
-      rows_room = λ q. omega (arith, ap length (rw q at (h.rows_are w)), m.rows_room);
-    })
+    }
+
+-- so much for an end that is written, or is not
+module _ {d : Dialect} {f : Bytes} {p : Head} {next : ℕ} {row : Bool} {b b' : Lists} (h : Ends d f p [] next row p.text) where
+  pub end-walks : (r : Option Head) → PutsEnd p next row p.text b r b' → IfSome r (λ q. (w : Bool) → Wrote w d f p b q b')
+  end-walks None g = tt
+  end-walks (Some q) g = λ w. end-wrote h g
+
+  pub end-lacks : (r : Option Head) → PutsEnd p next row p.text b r b' → IfNone r ((w : Bool) → Ample w d f p b → length f ≤ p.at)
+  end-lacks None g = λ w m. absurd (g.head (end-fits h m))
+  end-lacks (Some q) g = tt
 
 -- the byte at a place does a
 abbrev pub Does : Dialect → Bytes → Head → Act → Type 0
@@ -142,10 +124,9 @@ module _ (d : Dialect) (f : Bytes) (p : Head) (h : p.at < length f) where
 
     -- a place one byte further on, with nothing written
     pub goes :
-        {w : Bool} {q : Head} {text ends rows : List ℕ} → q.at ≡ p.at + 1 → q.held ≤ p.held + 1 → q.text ≡ p.text → q.ends ≡ p.ends → q.rows ≡ p.rows
-        → text_if d f p a ≡ text_ahead d f q → ends_if w d f p a ≡ ends_ahead w d f q → rows_if w d f p a ≡ rows_ahead w d f q
-        → Wrote w d f p text ends rows q text ends rows
-    goes {w} {q} n i e₁ e₂ e₃ t u v =
+        {w : Bool} {b : Lists} (q : Head) → q.at ≡ p.at + 1 → q.held ≤ p.held + 1 → q.text ≡ p.text → q.ends ≡ p.ends → q.rows ≡ p.rows
+        → text_if d f p a ≡ text_ahead d f q → ends_if w d f p a ≡ ends_ahead w d f q → rows_if w d f p a ≡ rows_ahead w d f q → Wrote w d f p b q b
+    goes {w} q n i e₁ e₂ e₃ t u v =
         record {
           on = omega arith;
           inside = λ l. omega arith;
@@ -164,43 +145,49 @@ module _ (d : Dialect) (f : Bytes) (p : Head) (h : p.at < length f) where
           by true z = record { further = omega arith; inside = omega arith; text_is = text-by ∙ rw (z, form-back start); ends_are = λ w. ends-by w ∙ rw (z, form-back start); rows_are = λ w. rows-by w ∙ rw (z, form-back start) }
           by false z = record { further = omega arith; inside = omega arith; text_is = text-by ∙ rw (z, form-back start); ends_are = λ w. ends-by w ∙ rw (z, form-back start); rows_are = λ w. rows-by w ∙ rw (z, form-back start) }
 
-  -- a byte of content behind the blanks held
-  abbrev put_at : ℕ → Head
-  put_at k = record { at = p.at + 1; form = k; held = 0; text = p.text + p.held + 1; ends = p.ends; rows = p.rows; begun = true }
+  -- behind a byte that ends nothing
+  abbrev next : Head
+  next = record p { at = p.at + 1; begun = true }
 
-  pub put-wrote :
-      {w : Bool} (k : ℕ) → Does d f p (go (form_of k) put) → (text ends rows : List ℕ) (y : Bool) → ltb (p.text + p.held) (length text) ≡ y
-      → Wrote w d f p text ends rows (cond y (put_at k) p) (cond y (set (sets text p.text (replicate p.held 0x20)) (p.text + p.held) (get_or f p.at 0)) text) ends rows
-  put-wrote {w} k e text ends rows true q =
-      let l : p.text + p.held < length text = ltb-true (p.text + p.held) (length text) q in
-      let blanks : Bytes = replicate p.held 0x20 in
-      record {
+  pub passes : {w : Bool} {k : ℕ} {b : Lists} → Does d f p (go (form_of k) nothing) → Wrote w d f p b (record next { form = k }) b
+  passes e = goes _ e _ refl (omega arith) refl refl refl refl refl refl
+
+  pub drops : {w : Bool} {k : ℕ} {b : Lists} → Does d f p (go (form_of k) dropped) → Wrote w d f p b (record next { form = k }) b
+  drops e = goes _ e _ refl (omega arith) refl refl refl refl refl refl
+
+  pub holds : {w : Bool} {k n : ℕ} {b : Lists} → Does d f p (go (form_of k) hold) → n ≡ p.held + 1 → Wrote w d f p b (record next { form = k; held = n }) b
+  holds e z = rw z (goes _ e _ refl (omega arith) refl refl refl refl refl refl)
+
+  -- a byte of content behind the blanks held
+  abbrev pub due : Bytes
+  due = replicate p.held 0x20 ++ (get_or f p.at 0 ∷ [])
+
+  due-length : length due ≡ p.held + 1
+  due-length = omega (arith, length-append (replicate p.held 0x20) (get_or f p.at 0 ∷ []), length-replicate {A = ℕ} p.held 0x20)
+
+  text-due : (k : ℕ) → Does d f p (go (form_of k) put) → text_ahead d f p ≡ due ++ text_left d (drop (p.at + 1) f) (form_of k) 0
+  text-due k e = text-by _ e ∙ sym (append_assoc (replicate p.held 0x20) (get_or f p.at 0 ∷ []) _)
+
+  pub puts :
+      {w : Bool} {k m : ℕ} {b : Lists} {text : Bytes} → Does d f p (go (form_of k) put) → Puts b.text p.text due (Some m) text
+      → Wrote w d f p b (record next { form = k; held = 0; text = m }) (record b { text = text })
+  puts {w} {k} e g =
+      let at : p.text + p.held + 1 ≡ p.text + length due = omega (arith, due-length) in
+      rw (g.place.1, g.written)
+      (record {
         on = omega arith;
         inside = λ i. omega arith;
         held = omega arith;
-        text_on = grown-then (grown-list blanks (length-replicate p.held 0x20) (omega arith) (text-by _ e)) (grown-one (omega (arith, length-sets text p.text blanks)) refl);
-        ends_on = grown-none (ends-by _ e w);
+        text_on = grown-list due refl g.place.0 (text-due k e);
+        ends_on = grown-none (rw at at (ends-by _ e w));
         rows_on = grown-none (rows-by _ e w);
-      }
-  put-wrote k e text ends rows false q = wrote_none
+      })
 
-  pub put-fits : {w : Bool} (k : ℕ) {text ends rows : List ℕ} → Does d f p (go (form_of k) put) → Ample w d f p text ends rows → ltb (p.text + p.held) (length text) ≡ true
-  put-fits k {text} e m =
-      let blanks : Bytes = replicate p.held 0x20 in
-      let all = ap length (text-by _ e) ∙ length-append blanks _ in
-      lt-ltb (p.text + p.held) (length text) (omega (arith, all, length-replicate {A = ℕ} p.held 0x20, m.text_room))
-
-  -- a blank that is held
-  pub hold-wrote :
-      {w : Bool} (k : ℕ) → Does d f p (go (form_of k) hold) → (text ends rows : List ℕ) (y : Bool)
-      → Wrote w d f p text ends rows (cond y (record { at = p.at + 1; form = k; held = p.held + 1; text = p.text; ends = p.ends; rows = p.rows; begun = true }) p) text ends rows
-  hold-wrote k e text ends rows true = goes _ e refl (omega arith) refl refl refl refl refl refl
-  hold-wrote k e text ends rows false = wrote_none
+  pub put-fits : {w : Bool} (k : ℕ) {b : Lists} → Does d f p (go (form_of k) put) → Ample w d f p b → p.text + length due ≤ length b.text
+  put-fits k e m = omega (arith, ap length (text-due k e) ∙ length-append due _, m.text_room)
 
   -- behind a refusal nothing is ahead
-  pub stops :
-      {w : Bool} {n : ℕ} {text ends rows : List ℕ} → Does d f p (refuse n)
-      → Wrote w d f p text ends rows (record { at = length f; form = p.form; held = p.held; text = p.text; ends = p.ends; rows = p.rows; begun = false }) text ends rows
+  pub stops : {w : Bool} {n : ℕ} {b : Lists} → Does d f p (refuse n) → Wrote w d f p b (record p { at = length f; begun = false }) b
   stops {w} e =
       record {
         on = omega arith;
@@ -210,23 +197,3 @@ module _ (d : Dialect) (f : Bytes) (p : Head) (h : p.at < length f) where
         ends_on = grown-none (ends-by _ e w ∙ rw (drop-length, ends-none w d));
         rows_on = grown-none (rows-by _ e w ∙ rw (drop-length, rows_none w d));
       }
-
-pub place_is : (l at count : ℕ) → at < l → ltb count (l - at) ≡ ltb (at + count) l
-place_is l at count h = by (ltb count (l - at)) refl
-  where
-    by : (x : Bool) → ltb count (l - at) ≡ x → x ≡ ltb (at + count) l
-    by true e = let lt : at + count < l = omega (arith, ltb-true count (l - at) e) in rw (lt-ltb (at + count) l lt)
-    by false e = let le : l ≤ at + count = omega (arith, ltb-false count (l - at) e) in rw (le-ltb (at + count) l le)
-
--- where put_field has moved the walk, the field fitted
-pub moved-fits : (y : Bool) (p : Head) (next n : ℕ) (row : Bool) {r : Head} → r ≡ cond y (behind p next row n) p → p.at < next → r.at ≡ next → y ≡ true
-moved-fits true p next n row e l q = refl
-moved-fits false p next n row e l q = absurd (omega (arith, ap (λ (h : Head). h.at) e))
-
-pub end-moves :
-    (p : Head) (next : ℕ) (row : Bool) → p.at < next → {y : Bool} {r : Head} → y ≡ true → r ≡ cond y (behind p next row p.text) p → p.at < r.at
-end-moves p next row l {y} e q = by y e q
-  where
-    by : (z : Bool) {r : Head} → z ≡ true → r ≡ cond z (behind p next row p.text) p → p.at < r.at
-    by true e q = rw q l
-    by false e q = absurd (false≢true e)

@@ -5,199 +5,140 @@
 
 #![tactic(auto)]
 
-ghost use Rattle.std.specs.Prelude.{◌≡◌, Bool, true, false, cond, ◌+◌, ◌<◌, ◌≤◌, ltb, length, get_or, set, replicate};
-ghost use Rattle.std.proofs.lemmas.List.Edits.{sets};
-ghost use Rattle.format.specs.Dialect.{dialect};
+ghost use Rattle.std.specs.Prelude.{◌≡◌, Bool, ◌∷◌, [], ◌++◌, ◌<◌, ◌≤◌, length, slice_index, replicate, IfSome, IfNone};
+ghost use Rattle.format.specs.Meant.{dialect_of};
+ghost use Rattle.fill.specs.Buffers.{SameBuffers, lists};
+ghost use Rattle.fill.specs.Put.{Puts};
 ghost use Rattle.fill.specs.Walk.{Wrote};
-ghost use Rattle.stride.specs.Stride.{Ample, EndAt, Found};
+ghost use Rattle.stride.specs.Stride.{Ample, EndAt, Found, length_of, is_record_end};
 
-use fill::{Field, Head};
+use fill::{Buffers, Field, Head};
+use format::Dialect;
 use steps::Stepped;
 
-// Takes the byte at a place, if there is one. A refusal, which an accepted file does not have, ends the walk; where a
-// byte's output has no room the walk stays.
-pub fn take_byte(
-    file: &[u8],
-    delimiter: u8,
-    leniencies: u8,
-    p: Head,
-    text: &mut [u8],
-    ends: &mut [u32],
-    rows: &mut [u32],
-) -> Head
-    ensures wrote { (w : Bool) → Wrote w (dialect delimiter leniencies) file.now p text.old ends.old rows.old result text.new ends.new rows.new }
-    ensures at_lt_at { (w : Bool) → Ample w (dialect delimiter leniencies) file.now p text.old ends.old rows.old → p.at < length file.now → p.at < result.at }
-{
-    let at = p.at;
-    if file.len() <= at {
-        return p;
+// What ends a field: a delimiter, or a line break, which ends the record too.
+#[derive(Clone, Copy)]
+enum Ending {
+    Delimiter,
+    Break,
+}
+
+impl Ending {
+    fn length(self) -> usize
+        ensures { result ≡ length_of self }
+    {
+        match self {
+            Ending::Delimiter => 1,
+            Ending::Break => 2,
+        }
     }
-    let b = file[at];
-    let s = steps::step(delimiter, leniencies, p.form, b);
-    match s {
-        Stepped::Refuse(_) => stopped(p, file.len()),
-        Stepped::Quiet(k) => moved(p, k, p.held, p.text),
-        Stepped::Put(k) => put_byte(p, k, b, text),
-        Stepped::Hold(k) => hold(p, k),
-        Stepped::Drop(k) => moved(p, k, p.held, p.text),
-        Stepped::EndField => fill::put_end(p, at + 1, false, ends, rows),
-        Stepped::EndRecord => fill::put_end(p, at + 1, true, ends, rows),
+
+    fn ends_record(self) -> bool
+        ensures { result ≡ is_record_end self }
+    {
+        matches!(self, Ending::Break)
     }
 }
 
-// The place at the file's end, with nothing left to write.
-fn stopped(p: Head, end: usize) -> Head
-    ensures { result ≡ record { at = end; form = p.form; held = p.held; text = p.text; ends = p.ends; rows = p.rows; begun = false } }
+// Takes the byte at a place, if there is one and there is room for what it puts out. A refusal, which an
+// accepted file does not have, ends the walk.
+pub fn take_byte(file: &[u8], dialect: Dialect, p: Head, to: &mut Buffers) -> Option<Head>
+    ensures same { SameBuffers to.old to.new }
+    ensures further { IfSome result (λ q. (p.at < length file.now) × (p.at < q.at)) }
+    ensures wrote { IfSome result (λ q. (w : Bool) → Wrote w (dialect_of dialect) file.now p (lists to.old) q (lists to.new)) }
+    ensures unchanged { IfNone result (lists to.new ≡ lists to.old) }
+    ensures no_room_or_byte { IfNone result ((w : Bool) → Ample w (dialect_of dialect) file.now p (lists to.old) → length file.now ≤ p.at) }
 {
-    Head {
-        at: end,
-        form: p.form,
-        held: p.held,
-        text: p.text,
-        ends: p.ends,
-        rows: p.rows,
-        begun: false,
-    }
-}
-
-// The place behind a byte that ends nothing.
-fn moved(p: Head, form: u8, held: usize, text: usize) -> Head
-    requires { p.at < 18446744073709551615 }
-    ensures { result ≡ record { at = p.at + 1; form = form; held = held; text = text; ends = p.ends; rows = p.rows; begun = true } }
-{
-    Head {
+    let b = *file.get(p.at)?;
+    let next = Head {
         at: p.at + 1,
-        form,
-        held,
-        text,
-        ends: p.ends,
-        rows: p.rows,
         begun: true,
+        ..p
+    };
+    match steps::step(dialect, p.form, b) {
+        Stepped::Refuse(_) => Some(Head {
+            at: file.len(),
+            begun: false,
+            ..p
+        }),
+        Stepped::Quiet(form) | Stepped::Drop(form) => Some(Head { form, ..next }),
+        Stepped::Put(form) => {
+            let text = put_byte(p, b, to.text)?;
+            Some(Head {
+                form,
+                held: 0,
+                text,
+                ..next
+            })
+        }
+        Stepped::Hold(form) => {
+            let held = p.held.checked_add(1)?;
+            Some(Head { form, held, ..next })
+        }
+        Stepped::EndField => fill::put_end(p, next.at, false, to),
+        Stepped::EndRecord => fill::put_end(p, next.at, true, to),
     }
 }
 
-// The place behind a blank that is held.
-fn hold(p: Head, form: u8) -> Head
-    requires { p.at < 18446744073709551615 }
-    ensures { result ≡ cond (ltb p.held 18446744073709551615) (record { at = p.at + 1; form = form; held = p.held + 1; text = p.text; ends = p.ends; rows = p.rows; begun = true }) p }
+// Writes the blanks held and then a byte of content, and says where they end.
+fn put_byte(p: Head, b: u8, text: &mut [u8]) -> Option<usize>
+    ensures { Puts text.old p.text (replicate p.held 0x20 ++ b ∷ []) result text.new }
 {
-    if 18446744073709551615 <= p.held {
-        return p;
+    let last = p.text.checked_add(p.held)?;
+    if text.len() <= last {
+        return None;
     }
-    moved(p, form, p.held + 1, p.text)
+    text[p.text..last].fill(b' ');
+    text[last] = b;
+    Some(last + 1)
 }
 
-// Writes the blanks held and then a byte of content, where they fit, and says where the walk is.
-fn put_byte(p: Head, form: u8, b: u8, text: &mut [u8]) -> Head
-    requires { p.at < 18446744073709551615 }
-    ensures value { result ≡ cond (ltb (p.text + p.held) (length text.old)) (record { at = p.at + 1; form = form; held = 0; text = p.text + p.held + 1; ends = p.ends; rows = p.rows; begun = true }) p }
-    ensures text_after { text.new ≡ cond (ltb (p.text + p.held) (length text.old)) (set (sets text.old p.text (replicate p.held 0x20)) (p.text + p.held) b) text.old }
+// The field that ends at the mark q, if it is plain text up to there.
+pub fn field_at(file: &[u8], dialect: Dialect, p: Head, q: usize) -> Option<Field<'_>>
+    ensures { Found (dialect_of dialect) file.now p q result }
 {
-    if !has_place(text.len(), p.text, p.held) {
-        return p;
+    if let Some(ending) = end_at(file, dialect.delimiter, q) {
+        return Some(Field {
+            content: file.get(p.at..q)?,
+            next: q + ending.length(),
+            row: ending.ends_record(),
+        });
     }
-    let at = fill::put_run(text, p.text, p.held, 0x20);
-    text[at] = b;
-    moved(p, form, 0, at + 1)
+    if q == p.at {
+        return quoted_field(file, dialect, p);
+    }
+    None
 }
 
-// Whether so many bytes and one more fit behind a place.
-fn has_place(length: usize, at: usize, count: usize) -> bool
-    ensures { result ≡ ltb (at + count) length }
+// The same where a quote stands: a field that it opens, of bytes that are content in every dialect, up to
+// its closing quote.
+fn quoted_field(file: &[u8], dialect: Dialect, p: Head) -> Option<Field<'_>>
+    requires { p.at < length file.now → slice_index file.now p.at ≡ dialect.delimiter → ⊥ }
+    ensures { Found (dialect_of dialect) file.now p p.at result }
 {
-    if length <= at {
-        return false;
-    }
-    count < length - at
-}
-
-// The field that ends at the mark q, if it is plain text up to there; or, where none does, one that
-// cannot be written, for it ends before it begins.
-pub fn field_at(file: &[u8], delimiter: u8, leniencies: u8, p: Head, q: usize) -> Field
-    ensures { Found (dialect delimiter leniencies) file.now p q result }
-{
-    if file.len() <= q {
-        return no_field(0);
-    }
-    let n = end_at(file, delimiter, q);
-    if n != 0 {
-        return Field {
-            from: p.at,
-            to: q,
-            next: q + n,
-            row: n == 2,
-        };
-    }
-    if file[q] == 0x22 {
-        return quoted_field(file, delimiter, leniencies, p, q);
-    }
-    no_field(q)
-}
-
-// The same where a quote stands at the mark: a field that it opens, of bytes that are content in every
-// dialect, up to its closing quote.
-fn quoted_field(file: &[u8], delimiter: u8, leniencies: u8, p: Head, q: usize) -> Field
-    requires { (q < length file.now) × (get_or file.now q 0 ≡ 0x22) × (delimiter ≡ 0x22 → ⊥) }
-    ensures { Found (dialect delimiter leniencies) file.now p q result }
-{
-    if q != p.at {
-        return no_field(q);
+    if *file.get(p.at)? != b'"' {
+        return None;
     }
     let from = p.at + 1;
     let to = from + runs::inner_run(file, from);
-    if !closes(file, to) {
-        return no_field(q);
+    if *file.get(to)? != b'"' {
+        return None;
     }
-    let e = to + 1;
-    let n = end_at(file, delimiter, e);
-    if n == 0 {
-        return no_field(q);
-    }
-    Field {
-        from,
-        to,
-        next: e + n,
-        row: n == 2,
-    }
+    let ending = end_at(file, dialect.delimiter, to + 1)?;
+    Some(Field {
+        content: &file[from..to],
+        next: to + 1 + ending.length(),
+        row: ending.ends_record(),
+    })
 }
 
-// How long what ends a field is, at a place: a delimiter, or a line break; and 0 where it is none.
-fn end_at(file: &[u8], delimiter: u8, at: usize) -> usize
-    requires { at < length file.now }
-    ensures upper_bound { result ≤ 2 }
-    ensures fact { result ≡ 0 → get_or file.now at 0 ≡ delimiter → ⊥ }
-    ensures end_at { (result ≡ 0 → ⊥) → EndAt file.now delimiter at result }
+// What ends a field at a place.
+fn end_at(file: &[u8], delimiter: u8, at: usize) -> Option<Ending>
+    ensures found { IfSome result (EndAt file.now delimiter at) }
+    ensures no_delimiter { IfNone result (at < length file.now → slice_index file.now at ≡ delimiter → ⊥) }
 {
-    if file[at] == delimiter {
-        return 1;
+    if *file.get(at)? == delimiter {
+        return Some(Ending::Delimiter);
     }
-    if runs::is_break(file, at) {
-        return 2;
-    }
-    0
-}
-
-// Whether a quote stands at a place, and a byte behind it.
-fn closes(file: &[u8], at: usize) -> bool
-    ensures { result ≡ true → (at + 1 < length file.now) × (get_or file.now at 0 ≡ 0x22) }
-{
-    if file.len() < 2 {
-        return false;
-    }
-    if file.len() - 2 < at {
-        return false;
-    }
-    file[at] == 0x22
-}
-
-fn no_field(q: usize) -> Field
-    requires { q < 18446744073709551615 }
-    ensures { (q < result.next) × (result.to < result.from) }
-{
-    Field {
-        from: 1,
-        to: 0,
-        next: q + 1,
-        row: false,
-    }
+    runs::is_break(file, at).then_some(Ending::Break)
 }

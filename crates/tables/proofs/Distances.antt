@@ -2,56 +2,61 @@
 use Prim.Native.Nat.{ℕ, suc, ◌+◌, ◌-◌, ◌≤◌, ◌<◌}
 use native.Mathlib.Numerals.{add-one}
 use native.Mathlib.Omega.{arith}
-use mathlib.Core.Path.{◌≡◌, refl, ap}
+use mathlib.Core.Path.{◌≡◌, subst}
 use mathlib.Core.Logic.{◌⊎◌, inl, inr, ◌↔◌}
 use mathlib.Core.List.{List, [], ◌∷◌}
 use lib.ListN.{length, drop, get_or, drop_of_length-le}
 use lib.Seq.{drop-cons}
+use Rattle.std.specs.Prelude.{true, false, Option, Some, None as Nothing, is_some}
 use Rattle.format.specs.Table.{None}
 use Rattle.format.specs.Memory.{Ordered, gaps}
 use Rattle.format.proofs.First.{none_first}
 use Rattle.format.proofs.Memory.{gaps-more, gaps-none}
 use Rattle.tables.specs.Seek.{Sought, paired, Strays}
-use Rattle.tables.proofs.Seeking.{is-first, is_none, Agree, sought-agree}
+use Rattle.tables.proofs.Seeking.{Further, found, nowhere, pass, Agree, sought-agree}
 
-pub paired-more : (n i : ℕ) (l : List ℕ) → i < length l → paired n (drop i l) ≡ (n, get_or l i 0) ∷ paired (get_or l i 0) (drop (i + 1) l)
+paired-more : (n i : ℕ) (l : List ℕ) → i < length l → paired n (drop i l) ≡ (n, get_or l i 0) ∷ paired (get_or l i 0) (drop (i + 1) l)
 unfolding paired
 paired-more n i l h = rw (add-one, drop-cons l i 0 h)
 
-pub paired_none : (n i : ℕ) (l : List ℕ) → length l ≤ i → paired n (drop i l) ≡ []
+paired_none : (n i : ℕ) (l : List ℕ) → length l ≤ i → paired n (drop i l) ≡ []
 unfolding paired
 paired_none n i l h = rw (drop_of_length-le l h)
 
-pub paired-length : (n : ℕ) (l : List ℕ) → length (paired n l) ≡ length l
-unfolding paired
-paired-length n [] = refl
-paired-length n (m ∷ l) = ap suc (paired-length m l)
-
-pub keeps : (least most n m : ℕ) → n + least ≤ m → m ≤ n + most → Strays least most (n, m) → ⊥
+keeps : (least most n m : ℕ) → n + least ≤ m → m ≤ n + most → Strays least most (n, m) → ⊥
 keeps least most n m h k (inl x) = omega arith
 keeps least most n m h k (inr x) = omega arith
 
--- where no number is above the most, none strays exactly if they stand in the order that the least decides
-module _ (R : ℕ → ℕ → Type 0) (least most : ℕ) (same : (n m : ℕ) → (n + least ≤ m) ↔ R n m) where
-  none-strays : (n : ℕ) (l : List ℕ) → None (Strays least most) (paired n l) → Ordered R n l
+-- where there are no numbers, none strays
+pub nothing_strays : (least most n : ℕ) (l : List ℕ) → length l ≤ 0 → None (Strays least most) (paired n l)
+nothing_strays least most n l h = rw (paired_none n 0 l h) tt
+
+-- where no number is above the most, none strays exactly if each is at least so much above the one before it
+module _ (least most : ℕ) where
+  abbrev Above : ℕ → ℕ → Type 0
+  Above n m = n + least ≤ m
+
+  none-strays : (n : ℕ) (l : List ℕ) → None (Strays least most) (paired n l) → Ordered Above n l
   unfolding paired
   none-strays n [] x = tt
   none-strays n (m ∷ l) x =
       let h : m < n + least → ⊥ = λ y. x.0 (inl y) in
-      ((same n m).0 (omega (arith, h)), none-strays m l x.1)
+      (omega (arith, h), none-strays m l x.1)
 
-  none-strays-back : (n : ℕ) (l : List ℕ) → ((i : ℕ) → get_or l i 0 ≤ most) → Ordered R n l → None (Strays least most) (paired n l)
+  none-strays-back : (n : ℕ) (l : List ℕ) → ((i : ℕ) → get_or l i 0 ≤ most) → Ordered Above n l → None (Strays least most) (paired n l)
   unfolding paired
   none-strays-back n [] f o = tt
-  none-strays-back n (m ∷ l) f o =
-      (keeps least most n m ((same n m).1 o.0) (omega (arith, f 0)), none-strays-back m l (λ i. f (suc i)) o.1)
+  none-strays-back n (m ∷ l) f o = (keeps least most n m o.0 (omega (arith, f 0)), none-strays-back m l (λ i. f (suc i)) o.1)
 
-  module _ (n : ℕ) (l : List ℕ) {k : ℕ} (s : Sought (Strays least most) (paired n l) k) where
-    pub in_order : length l ≤ k → Ordered R n l
-    in_order h = none-strays n l (is_none s (rw paired-length h))
+  pub in_order : (n : ℕ) (l : List ℕ) (r : Option ℕ) → is_some r ≡ false → Sought (Strays least most) (paired n l) r → Ordered (λ a b. a + least ≤ b) n l
+  in_order n l (Some k) e s = cc
+  in_order n l Nothing e s = none-strays n l s
 
-    pub out_of_order : ((i : ℕ) → get_or l i 0 ≤ most) → k < length l → Ordered R n l → ⊥
-    out_of_order f h o = none_first (none-strays-back n l f o) (is-first s (rw paired-length h))
+  pub out_of_order :
+      (n : ℕ) (l : List ℕ) (r : Option ℕ) → ((i : ℕ) → get_or l i 0 ≤ most) → is_some r ≡ true → Sought (Strays least most) (paired n l) r
+      → Ordered (λ a b. a + least ≤ b) n l → ⊥
+  out_of_order n l (Some k) f e s o = none_first (none-strays-back n l f o) s
+  out_of_order n l Nothing f e s o = cc
 
 -- a number below the least or above the most
 abbrev pub Outside : ℕ → ℕ → ℕ → Type 0
@@ -75,5 +80,21 @@ module _ (least most : ℕ) where
   gaps-agree n (m ∷ l) o = rw (gaps-more n 0 (m ∷ l) (omega arith)) (by-gap n m o.0, gaps-agree m l o.1)
 
   -- in a list that never falls, a number strays exactly if its gap is outside
-  pub sought-gaps : (n : ℕ) (l : List ℕ) {k : ℕ} → Ordered ◌≤◌ n l → Sought (Strays least most) (paired n l) k → Sought (Outside least most) (gaps n l) k
-  sought-gaps n l o s = sought-agree (Strays least most) (Outside least most) (paired n l) (gaps n l) (gaps-agree n l o) s
+  pub sought-gaps : (n : ℕ) (l : List ℕ) (r : Option ℕ) → Ordered ◌≤◌ n l → Sought (Strays least most) (paired n l) r → Sought (Outside least most) (gaps n l) r
+  sought-gaps n l r o s = sought-agree (Strays least most) (Outside least most) (paired n l) (gaps n l) r (gaps-agree n l o) s
+
+-- a walk at entry i, where the one before it is n
+module _ (least most n i : ℕ) (l : List ℕ) (g : Further (Strays least most) (paired 0 l) i (paired n (drop i l))) where
+  next-entry : i < length l → Further (Strays least most) (paired 0 l) i ((n, get_or l i 0) ∷ paired (get_or l i 0) (drop (i + 1) l))
+  next-entry h = subst (Further (Strays least most) (paired 0 l) i) (paired-more n i l h) g
+
+  pub strays_there : i < length l → Strays least most (n, get_or l i 0) → Sought (Strays least most) (paired 0 l) (Some i)
+  strays_there h o = found (Strays least most) (paired 0 l) i (n, get_or l i 0) _ (next-entry h) o
+
+  pub goes_on :
+      i < length l → (Strays least most (n, get_or l i 0) → ⊥)
+      → Further (Strays least most) (paired 0 l) (i + 1) (paired (get_or l i 0) (drop (i + 1) l))
+  goes_on h o = pass (Strays least most) (paired 0 l) i (n, get_or l i 0) _ (next-entry h) o
+
+  pub none-strays_there : length l ≤ i → Sought (Strays least most) (paired 0 l) Nothing
+  none-strays_there h = nowhere (Strays least most) (paired 0 l) i (subst (Further (Strays least most) (paired 0 l) i) (paired_none n i l h) g)

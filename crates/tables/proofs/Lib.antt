@@ -1,5 +1,6 @@
+pub mod Cutting
 pub mod Distances
-pub mod Formed
 pub mod Searching
 pub mod Seeking
 pub mod Showing
+pub mod Testing

@@ -1,60 +1,60 @@
--- The column search: what the walks over the fields say of the header, and the law that any two outcomes coincide.
-use Prim.Native.Nat.{ℕ, ◌≤◌, ◌<◌}
-use native.Mathlib.Nat.{zero-add}
+-- The column search: what the walks over the header say, and the law that any two outcomes coincide.
+use Prim.Native.Nat.{ℕ, ◌<◌}
 use native.Mathlib.Omega.{arith}
-use mathlib.Core.Path.{◌≡◌, refl, sym, ap, ◌∙◌}
+use mathlib.Core.Path.{◌≡◌, refl, sym, ap, subst, ◌∙◌}
 use mathlib.Core.List.{List, []}
 use lib.ListN.{length, get_or}
+use Rattle.std.specs.Prelude.{Option, Some, None, Result, MatchOption, slice_get}
+use Rattle.std.specs.List.{AllWithin, HoldsAt, enumerate_from}
+use Rattle.std.proofs.lemmas.List.FromFn.{length-enumerate_from, get_or-enumerate_from}
+use Rattle.std.proofs.lemmas.Option.{slice_get_within, get_or_from_slice_get}
 use Rattle.format.specs.Table.{Bytes, Content}
-use Rattle.format.specs.Memory.{WellFormed, parts, table_of}
+use Rattle.format.specs.Memory.{WellFormed, table_of}
 use Rattle.format.specs.Answer.{search_numbers}
-use Rattle.format.specs.declared.Found.{Found}
-use Rattle.format.proofs.Memory.{table-length, field_at, field-part, record-width}
+use Rattle.format.specs.declared.FieldNumber.{FieldNumber}
+use Rattle.format.specs.declared.SearchError.{SearchError}
 use Rattle.format.proofs.Numbers.{one-search-numbers}
-use Rattle.tables.specs.Search.{answered, header_of, Repeats, Named, NoneBelow, InHeader, twice, at, nowhere, Searched, malformed, no_records, in_header, Least}
+use Rattle.tables.proofs.Cutting.{past}
+use Rattle.tables.specs.Search.{answered, Repeats, Named, NoneBelow, InHeader, twice, at, nowhere, Searched, malformed, no_records, in_header, Least}
 
-module _ {text : Bytes} {ends rows : List ℕ} (w : WellFormed text ends rows) where
-  pub lacks-records : {name : Bytes} → length rows ≡ 0 → Searched text ends rows name (answered 17 0)
-  lacks-records e = no_records w (table-length text ends rows ∙ e)
+-- a column with its number, and an earlier one that has its name
+abbrev pub Earlier : List Content → ℕ × Content → Type 0
+Earlier h p = (i : ℕ) × (i < p.0) × (i < length h) × Named h p.1 i
 
-  module _ (some : 0 < length rows) where
-    header-width : length (header_of (table_of text ends rows)) ≡ get_or rows 0 0
-    header-width = omega (arith, record-width w 0 some)
+module _ (h : List Content) where
+  repeats_at : (k : ℕ) → k < length h → Repeats h k → Earlier h (get_or (enumerate_from 0 h) k (0, []))
+  repeats_at k l (i, m, e) = rw get_or-enumerate_from (i, omega arith, omega arith, e)
 
-    header-field : (k : ℕ) → k < get_or rows 0 0 → get_or (header_of (table_of text ends rows)) k [] ≡ get_or (parts 0 text ends) k []
-    header-field k l = rw zero-add at (field_at w 0 k some (omega arith)) ∙ sym (field-part text ends k)
+  at_repeats : (k : ℕ) → k < length h → Earlier h (get_or (enumerate_from 0 h) k (0, [])) → Repeats h k
+  at_repeats k l x = let (i, m, n, e) = rw get_or-enumerate_from at x in (i, omega arith, e)
 
-    repeats : (j : ℕ) → j < get_or rows 0 0 → Repeats (parts 0 text ends) j → Repeats (header_of (table_of text ends rows)) j
-    repeats j l (i, before, e) = (i, before, header-field i (omega arith) ∙ e ∙ sym (header-field j l))
+  pub least-repeated :
+      (r : Option ℕ)
+      → MatchOption r (AllWithin (λ p. Earlier h p → ⊥) (enumerate_from 0 h) 0 (length (enumerate_from 0 h)))
+      (λ k. (k < length (enumerate_from 0 h)) × HoldsAt (Earlier h) (enumerate_from 0 h) k × AllWithin (λ p. Earlier h p → ⊥) (enumerate_from 0 h) 0 k)
+      → Least (Repeats h) (length h) r
+  least-repeated None n = λ k l x. n k (0, []) (omega arith) (rw length-enumerate_from l) (repeats_at k l x)
+  least-repeated (Some k) (l, x, n) =
+      let m : k < length h = rw length-enumerate_from at l in
+      record { below = m; none_before = λ i j y. n i (0, []) (omega arith) j (repeats_at i (omega arith) y); here = at_repeats k m (x (0, [])) }
 
-    repeats-back : (j : ℕ) → j < get_or rows 0 0 → Repeats (header_of (table_of text ends rows)) j → Repeats (parts 0 text ends) j
-    repeats-back j l (i, before, e) = (i, before, sym (header-field i (omega arith)) ∙ e ∙ header-field j l)
+module _ {text : Bytes} {ends rows : List ℕ} (w : WellFormed text ends rows) {name : Bytes} where
+  pub lacks-records : None ≡ slice_get (table_of text ends rows) 0 → Searched text ends rows name (answered 17 0)
+  lacks-records e = no_records w (omega (arith, past (table_of text ends rows) 0 (sym e)))
 
-    gives : {name : Bytes} {found : List ℕ} → InHeader (header_of (table_of text ends rows)) name found → Searched text ends rows name found
-    gives f = in_header w (rw (table-length text ends rows) some) f
+  module _ {h : List Content} (e : Some h ≡ slice_get (table_of text ends rows) 0) where
+    in-table : {found : List ℕ} → InHeader h name found → Searched text ends rows name found
+    in-table {found} f =
+        in_header w (slice_get_within _ 0 h (sym e)) (subst (λ (l : List Content). InHeader l name found) (sym (get_or_from_slice_get _ 0 h [] (sym e))) f)
 
-    pub repeated :
-        {name : Bytes} {j : ℕ}
-        → Least (Repeats (parts 0 text ends)) (get_or rows 0 0) j → j < get_or rows 0 0 → Searched text ends rows name (answered 16 j)
-    repeated {name} {j} least l =
-        gives (twice (rw header-width l) (repeats j l (least.here l)) (λ i m r. least.none_before i m (repeats-back i (omega arith) r)))
+    pub repeated : {j : ℕ} → Least (Repeats h) (length h) (Some j) → Searched text ends rows name (answered 16 j)
+    repeated least = in-table (twice least.below least.here least.none_before)
 
-    module _ {j : ℕ} (least : Least (Repeats (parts 0 text ends)) (get_or rows 0 0) j) (past : get_or rows 0 0 ≤ j) where
-      none-repeats : NoneBelow (Repeats (header_of (table_of text ends rows))) (length (header_of (table_of text ends rows)))
-      none-repeats i l r = least.none_before i (omega (arith, header-width)) (repeats-back i (omega (arith, header-width)) r)
+    pub named : {k : ℕ} → Least (Repeats h) (length h) None → Least (Named h name) (length h) (Some k) → Searched text ends rows name (answered 0 k)
+    named none least = in-table (at none least.below least.here)
 
-      pub named :
-          {name : Bytes} {k : ℕ}
-          → Least (Named (parts 0 text ends) name) (get_or rows 0 0) k → k < get_or rows 0 0 → Searched text ends rows name (answered 0 k)
-      named {name} {k} lowest l = gives (at none-repeats (rw header-width l) (header-field k l ∙ lowest.here l))
-
-      pub not_named :
-          {name : Bytes} {k : ℕ}
-          → Least (Named (parts 0 text ends) name) (get_or rows 0 0) k → get_or rows 0 0 ≤ k → Searched text ends rows name (answered 17 0)
-      not_named lowest m =
-          gives
-          (nowhere none-repeats
-          (λ i l e. lowest.none_before i (omega (arith, header-width)) (sym (header-field i (omega (arith, header-width))) ∙ e)))
+    pub not_named : Least (Repeats h) (length h) None → Least (Named h name) (length h) None → Searched text ends rows name (answered 17 0)
+    not_named none nothing = in-table (nowhere none nothing)
 
 -- the lowest place with a property is one; and where no name repeats, so is the column of a name
 one_place : {P : ℕ → Type 0} {j k : ℕ} → P j → NoneBelow P j → P k → NoneBelow P k → j ≡ k
@@ -97,6 +97,6 @@ one_found (in_header v h e) (in_header w i f) = one-in-header e f
 
 -- any two outcomes coincide
 pub one-search :
-    {text : Bytes} {ends rows : List ℕ} {name : Bytes} (x y : Found)
+    {text : Bytes} {ends rows : List ℕ} {name : Bytes} (x y : Result FieldNumber SearchError)
     → Searched text ends rows name (search_numbers x) → Searched text ends rows name (search_numbers y) → x ≡ y
 one-search x y p q = one-search-numbers x y (one_found p q)

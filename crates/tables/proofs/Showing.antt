@@ -2,14 +2,20 @@
 use Prim.Native.Nat.{ℕ, ◌+◌, ◌-◌, ◌≤◌, ◌<◌, min}
 use native.Mathlib.Omega.{arith}
 use mathlib.Core.Path.{◌≡◌, refl, sym, ap, subst, ◌∙◌}
+use mathlib.Core.Bool.{Bool, true, false}
 use mathlib.Core.List.{List, [], ◌∷◌}
+use lib.Dec.{ltb}
+use borrow.Author.Tests.{ltb-true, ltb-false}
 use lib.ListN.{length, get_or, take, drop}
+use Rattle.std.specs.Prelude.{Option, Some, None}
+use Rattle.std.specs.Bool.{then_some}
 use Rattle.format.specs.declared.Part.{Part}
 use Rattle.format.specs.Table.{Bytes}
-use Rattle.format.specs.Memory.{WellFormed, table_of, start_of, parts, part_of}
+use Rattle.format.specs.Memory.{WellFormed, table_of, start_of, part_of}
 use Rattle.format.specs.Answer.{part_numbers}
-use Rattle.format.proofs.Memory.{table-length, records-most, row_within, end-within, field_at, record-width, field-part, part-from, part_length}
+use Rattle.format.proofs.Memory.{table-length, records-most, row_within, end-within, field_at, record-width, part-from, part_length}
 use Rattle.format.proofs.Numbers.{one-part-numbers}
+use Rattle.tables.specs.Formed.{Row}
 use Rattle.tables.specs.Shown.{Has, Lacks, malformed, no_record, no_column, Shown, Numbered, numbered, Located, lies}
 
 module _ {text : Bytes} {ends rows : List ℕ} {r c : ℕ} where
@@ -20,22 +26,27 @@ module _ {text : Bytes} {ends rows : List ℕ} {r c : ℕ} where
   never_both h (no_column w l m) = omega (arith, h.column_in)
 
   module _ (w : WellFormed text ends rows) where
-    pub lacks-record : length rows ≤ r → Lacks text ends rows r c
-    lacks-record h = no_record w (rw (table-length text ends rows) h)
+    pub lacks-record : length rows ≤ r → Numbered text ends rows r c None
+    lacks-record h = Numbered.absent (no_record w (rw (table-length text ends rows) h))
 
-    pub lacks-column : r < length rows → get_or rows r 0 - start_of rows r ≤ c → Lacks text ends rows r c
-    lacks-column h k = no_column w (rw (table-length text ends rows) h) (omega (arith, record-width w r h))
+    -- the number counted from the row's first field, if it is in the row
+    pub counted : {first next : ℕ} → Row rows (length ends) r first next → Numbered text ends rows r c (then_some (ltb (first + c) next) (first + c))
+    counted {first} {next} row = rw row.begins (go (ltb (start_of rows r + c) next) refl)
+      where
+        in-table : r < length (table_of text ends rows)
+        in-table = rw (table-length text ends rows) row.exists
 
-    pub is_number : {first : ℕ} → first ≡ start_of rows r → r < length rows → c < get_or rows r 0 - first → Numbered text ends rows r c (first + c)
-    is_number e h k =
-        let k' : c < get_or rows r 0 - start_of rows r = rw e at k in
-        rw e
-        (numbered
-        (record {
-          formed = w;
-          record_in = rw (table-length text ends rows) h;
-          column_in = omega (arith, record-width w r h, row_within w r h);
-        }))
+        go : (x : Bool) → ltb (start_of rows r + c) next ≡ x → Numbered text ends rows r c (then_some x (start_of rows r + c))
+        go true e =
+            numbered
+            (record {
+              formed = w;
+              record_in = in-table;
+              column_in = omega (arith, ltb-true (start_of rows r + c) next e, row.ends, record-width w r row.exists);
+            })
+        go false e =
+            Numbered.absent
+            (no_column w in-table (omega (arith, ltb-false (start_of rows r + c) next e, row.ends, record-width w r row.exists)))
 
   -- the field of a place that is there: its number is within the fields, and its content is that field's
   module _ (h : Has text ends rows r c) where
@@ -60,33 +71,38 @@ module _ {text : Bytes} {ends rows : List ℕ} {r c : ℕ} where
         ≡ get_or (get_or (table_of text ends rows) r []) c []
     part-is = rw (content-is, size_is) (sym (part-from text ends (start_of rows r + c)))
 
-  -- from the number of a field to what is shown, and to where it lies
-  pub is-there : {k : ℕ} → Numbered text ends rows r c k → k < length ends → Has text ends rows r c × (k ≡ start_of rows r + c)
-  is-there (numbered h) l = (h, refl)
-  is-there (Numbered.absent n) l = absurd (omega arith)
+  -- from the number of a field to where it lies, and to what is shown
+  pub is-there : {k : ℕ} → Numbered text ends rows r c (Some k) → Has text ends rows r c × (k ≡ start_of rows r + c)
+  is-there (numbered h) = (h, refl)
 
-  pub is-absent : {k : ℕ} → Numbered text ends rows r c k → length ends ≤ k → Lacks text ends rows r c
-  is-absent (numbered h) l = absurd (omega (arith, number_in h))
-  is-absent (Numbered.absent n) l = n
+  pub is-absent : Numbered text ends rows r c None → Lacks text ends rows r c
+  is-absent (Numbered.absent n) = n
 
-  pub shows :
-      {k : ℕ} {x stand-in : Bytes} → Numbered text ends rows r c k → k < length ends → x ≡ get_or (parts 0 text ends) k []
-      → Shown text ends rows r c stand-in x
-  shows n l e =
-      let (h, q) = is-there n l in
-      subst (Shown text ends rows r c _) (content-is h ∙ sym (rw q at e ∙ field-part text ends _)) (Shown.field h)
+  module _ {k : ℕ} (n : Numbered text ends rows r c (Some k)) where
+    pub is-field : k < length ends
+    is-field = let (h, q) = is-there n in rw q (number_in h)
 
-  pub starts-below : {k start : ℕ} → Numbered text ends rows r c k → k < length ends → start ≡ start_of ends k → start ≤ get_or ends k 0
-  starts-below {k} n l e = rw e (end-within (is-there n l).0.formed k l).0
+    pub starts-below : start_of ends k ≤ get_or ends k 0
+    starts-below = (end-within (is-there n).0.formed k is-field).0
 
-  pub lies_at :
-      {k start : ℕ} → Numbered text ends rows r c k → k < length ends → start ≡ start_of ends k
-      → Located text ends rows r c (1 ∷ start ∷ (get_or ends k 0 - start) ∷ [])
-  lies_at {k} {start} n l e =
-      let (h, q) = is-there n l in
-      let z : length (get_or (get_or (table_of text ends rows) r []) c []) ≡ get_or ends (start_of rows r + c) 0 - start_of ends (start_of rows r + c) =
-      ap length (content-is h) ∙ size_is h in
-      rw (e, q, ← z) (lies h)
+    pub lies_at : {start : ℕ} → start ≡ start_of ends k → Located text ends rows r c (1 ∷ start ∷ (get_or ends k 0 - start) ∷ [])
+    lies_at {start} e =
+        let (h, q) = is-there n in
+        let z : length (get_or (get_or (table_of text ends rows) r []) c []) ≡ get_or ends (start_of rows r + c) 0 - start_of ends (start_of rows r + c) =
+        ap length (content-is h) ∙ size_is h in
+        rw (e, q, ← z) (lies h)
+
+  -- from where it lies to what is shown
+  pub shows_part :
+      {start n : ℕ} {stand-in : Bytes} → Located text ends rows r c (1 ∷ start ∷ n ∷ [])
+      → (start + n ≤ length text) × Shown text ends rows r c stand-in (take (start + n - start) (drop start text))
+  shows_part {start} {n} {stand-in} (lies h) = (
+    omega (arith, ap length (content-is h), size_is h, (end-within h.formed (start_of rows r + c) (number_in h)).0, (end-within h.formed (start_of rows r + c) (number_in h)).1),
+    let e : start + n - start ≡ n = omega arith in rw (e, part-is h) (Shown.field h),
+  )
+
+  pub shows_stand-in : {stand-in : Bytes} → Located text ends rows r c (0 ∷ 0 ∷ 0 ∷ []) → Shown text ends rows r c stand-in stand-in
+  shows_stand-in (Located.absent l) = Shown.absent l
 
   -- any two outcomes coincide
   pub one-shown : {stand-in x y : Bytes} → Shown text ends rows r c stand-in x → Shown text ends rows r c stand-in y → x ≡ y
@@ -101,7 +117,7 @@ module _ {text : Bytes} {ends rows : List ℕ} {r c : ℕ} where
   one_place (Located.absent l) (lies h) = absurd (never_both h l)
   one_place (Located.absent l) (Located.absent m) = refl
 
-  pub one-located : (x y : Part) → Located text ends rows r c (part_numbers x) → Located text ends rows r c (part_numbers y) → x ≡ y
+  pub one-located : (x y : Option Part) → Located text ends rows r c (part_numbers x) → Located text ends rows r c (part_numbers y) → x ≡ y
   one-located x y p q = one-part-numbers x y (one_place p q)
 
 -- where no row is above b, no record and no column has a number of b or more: greater numbers may be taken for b

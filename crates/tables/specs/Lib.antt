@@ -1,4 +1,6 @@
+pub mod Fields
 pub mod Formed
+pub mod Records
 pub mod Search
 pub mod Seek
 pub mod Shown

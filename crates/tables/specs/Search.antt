@@ -1,5 +1,5 @@
 -- What the column search promises, in the rules' numbers: the refusal, and the place 0, 0 and a column, from 0.
-use Rattle.std.specs.Prelude.{ℕ, ◌<◌, ◌≡◌, List, [], ◌∷◌, length, get_or}
+use Rattle.std.specs.Prelude.{ℕ, ◌<◌, ◌≡◌, List, [], ◌∷◌, length, get_or, Option, MatchOption}
 use Rattle.format.specs.Table.{Bytes, Content, Table}
 use Rattle.format.specs.Memory.{WellFormed, table_of}
 
@@ -35,7 +35,12 @@ pub data Searched (text : Bytes) (ends rows : List ℕ) (name : Bytes) : List �
       → WellFormed text ends rows → 0 < length (table_of text ends rows) → InHeader (header_of (table_of text ends rows)) name found
       → Searched text ends rows name found
 
--- what a walk over n places promises: the lowest with the property P; or at least n, where none has it
-pub record Least (P : ℕ → Type 0) (n k : ℕ) : Type 0 where
+-- the lowest of n places that has the property P
+pub record Lowest (P : ℕ → Type 0) (n k : ℕ) : Type 0 where
+  pub below : k < n
   pub none_before : NoneBelow P k
-  pub here : k < n → P k
+  pub here : P k
+
+-- what a walk over n places promises: the lowest with the property P; or nothing, where none has it
+abbrev pub Least : (ℕ → Type 0) → ℕ → Option ℕ → Type 0
+Least P n r = MatchOption r (NoneBelow P n) (Lowest P n)

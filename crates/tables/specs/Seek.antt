@@ -1,10 +1,10 @@
 -- What a search for the first fault answers; and the distances between the numbers of a list, which may fall.
-use Rattle.std.specs.Prelude.{ℕ, ◌+◌, ◌<◌, ◌≡◌, ◌⊎◌, List, [], ◌∷◌, length}
+use Rattle.std.specs.Prelude.{ℕ, ◌+◌, ◌<◌, ◌⊎◌, List, [], ◌∷◌, Option, MatchOption}
 use Rattle.format.specs.Table.{None, First}
 
--- the first place that has the property P, or the length where none has it
-abbrev pub Sought : {A : Type 0} → (A → Type 0) → List A → ℕ → Type 0
-Sought P l k = First P l k ⊎ (None P l × (k ≡ length l))
+-- the first place that has the property P, or nothing where none has it
+abbrev pub Sought : {A : Type 0} → (A → Type 0) → List A → Option ℕ → Type 0
+Sought P l r = MatchOption r (None P l) (First P l)
 
 -- each number behind the one before it, and the first behind n
 unfoldable pub paired : ℕ → List ℕ → List (ℕ × ℕ)

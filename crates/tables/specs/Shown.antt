@@ -1,5 +1,5 @@
 -- What showing a field promises: a record and a column, both from 0.
-use Rattle.std.specs.Prelude.{ℕ, ◌+◌, ◌≤◌, ◌<◌, List, [], ◌∷◌, length, get_or}
+use Rattle.std.specs.Prelude.{ℕ, ◌+◌, ◌≤◌, ◌<◌, List, [], ◌∷◌, length, get_or, Option, Some, None}
 use Rattle.format.specs.Table.{Bytes}
 use Rattle.format.specs.Memory.{WellFormed, table_of, start_of}
 
@@ -20,10 +20,10 @@ module _ (text : Bytes) (ends rows : List ℕ) (r c : ℕ) where
     field : Has → Shown stand-in (get_or (get_or (table_of text ends rows) r []) c [])
     absent : Lacks → Shown stand-in stand-in
 
-  -- the number of the field in the whole table, or the number of fields
-  pub data Numbered : ℕ → Type 0 where
-    numbered : Has → Numbered (start_of rows r + c)
-    absent : Lacks → Numbered (length ends)
+  -- the number of the field in the whole table, or nothing
+  pub data Numbered : Option ℕ → Type 0 where
+    numbered : Has → Numbered (Some (start_of rows r + c))
+    absent : Lacks → Numbered None
 
   -- where it lies: found, its start in text, which is where the field before it ends, and its length
   pub data Located : List ℕ → Type 0 where

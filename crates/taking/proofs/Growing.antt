@@ -3,24 +3,28 @@ use Prim.Native.Nat.{ℕ, suc, ◌+◌, ◌-◌, ◌≤◌, ◌<◌, min}
 use native.Mathlib.Numerals.{add-one}
 use native.Mathlib.Omega.{arith}
 use mathlib.Core.Path.{◌≡◌, refl, sym, ap, ◌∙◌}
-use mathlib.Core.Bool.{Bool, true, false, cond, ◌&&◌, ◌||◌}
+use mathlib.Core.Bool.{Bool, true, false}
 use lib.Dec.{leb}
+use Rattle.std.proofs.Common.{None, Some}
 use mathlib.Core.List.{List, [], ◌∷◌, ◌++◌, append-nil}
 use lib.ListN.{length, drop, get_or, replicate, length-append, length-replicate, drop_of_length-le}
 use lib.Seq.{sets, drop-cons, length-sets, take-append_seam}
-use borrow.Author.Tests.{leb-true, leb-false, le-leb}
+use borrow.Author.Tests.{leb-true, leb-false}
 use Rattle.format.specs.Table.{Bytes}
 use Rattle.format.proofs.Filling.{sets-append}
-use Rattle.format.proofs.Tests.{and_both}
+use Rattle.fill.specs.Buffers.{Lists}
 use Rattle.state.specs.declared.Check.{Check}
 use Rattle.state.specs.Check.{fed}
 use Rattle.output.specs.Out.{Out, nothing, then}
-use Rattle.output.specs.Stream.{shown, is_over, puts_text, ends_field, ends_record, byte_left, when, blanks_due, due, Room, fits, left, short_of, Called, idle, onward, taking, streamed}
+use Rattle.output.specs.declared.Buffer.{Buffer, TheVariants.Text, TheVariants.Ends, TheVariants.Rows}
+use Rattle.output.specs.declared.Room.{Room}
+use Rattle.output.specs.Stream.{shown, is_over, blanks_due, due, due_out, fits, left, short_of, buffer_number, Called, idle, onward, stuck, taking, streamed}
 use Rattle.output.proofs.Calls.{then-then}
 use Rattle.output.specs.declared.Due.{Due}
-use Rattle.output.proofs.Bytewise.{due-is, short-is, short-fits, short-not, fits-parts, streamed-none, streamed-over, streamed-shown, streamed-taken, streamed-stuck}
+use Rattle.output.proofs.Bytewise.{short-fits, short-not, fits-parts, streamed-none, streamed-over, streamed-shown, streamed-taken, streamed-stuck}
 use Rattle.taking.specs.declared.Flow.{Flow}
-use Rattle.taking.specs.Walk.{room_at, rest_of, stop_at, adding, Inside, inside_by, Put, Grew, Took, one}
+use Rattle.taking.specs.declared.Lengths.{Lengths}
+use Rattle.taking.specs.Walk.{lengths, room_left, room_at, rest_of, adding, Inside, Put, Grew, Took}
 
 -- a buffer
 module _ {A : Type 0} where
@@ -50,14 +54,14 @@ adds-adds j k o p x =
     λ i. record { taken = z i; out = sym e i; short = x.short; state = x.state }
 
 -- the call stays
-pub grew_none : {piece text : Bytes} {ends rows : List ℕ} {p : Flow} → Inside p piece text ends rows → Grew piece p text ends rows p text ends rows (rest_of p piece text ends rows)
-grew_none {piece} {text} {ends} {rows} {p} w =
+pub grew_none : {piece : Bytes} {B : Lists} {p : Flow} → Inside p (lengths piece B) → Grew piece p B p B (rest_of p piece B)
+grew_none {piece} {B} {p} w =
     let z : p.taken - p.taken ≡ 0 = omega arith in
     record {
       new = nothing;
       on = omega arith;
       inside = w.taken_in;
-      model = adds_none (rest_of p piece text ends rows) ∙ ap (λ (k : ℕ). adding k nothing (rest_of p piece text ends rows)) (sym z);
+      model = adds_none (rest_of p piece B) ∙ ap (λ (k : ℕ). adding k nothing (rest_of p piece B)) (sym z);
       text_on = put-none w.text_in;
       ends_on = put-none w.ends_in;
       rows_on = put-none w.rows_in;
@@ -65,9 +69,9 @@ grew_none {piece} {text} {ends} {rows} {p} w =
 
 -- it goes on
 pub grew_then :
-    {piece : Bytes} {text ends rows text' ends' rows' text'' ends'' rows'' : List ℕ} {p q s : Flow} {x : Called}
-    → Grew piece p text ends rows q text' ends' rows' (rest_of q piece text' ends' rows') → Grew piece q text' ends' rows' s text'' ends'' rows'' x
-    → Grew piece p text ends rows s text'' ends'' rows'' x
+    {piece : Bytes} {B B' B'' : Lists} {p q s : Flow} {x : Called}
+    → Grew piece p B q B' (rest_of q piece B') → Grew piece q B' s B'' x
+    → Grew piece p B s B'' x
 grew_then {p = p} {q} {s} {x} g h =
     let i = g.on in
     let j = h.on in
@@ -86,8 +90,8 @@ grew_then {p = p} {q} {s} {x} g h =
 
 -- and stays in the piece and in each buffer, which keep their lengths
 pub grew-inside :
-    {piece : Bytes} {text ends rows text' ends' rows' : List ℕ} {p q : Flow} {x : Called} → Grew piece p text ends rows q text' ends' rows' x
-    → Inside q piece text' ends' rows'
+    {piece : Bytes} {B B' : Lists} {p q : Flow} {x : Called} → Grew piece p B q B' x
+    → Inside q (lengths piece B')
 grew-inside g =
     record {
       taken_in = g.inside;
@@ -96,82 +100,47 @@ grew-inside g =
       rows_in = omega (arith, g.rows_on.room, g.rows_on.at_is, put-size g.rows_on);
     }
 
-pub grew-sizes :
-    {piece : Bytes} {text ends rows text' ends' rows' : List ℕ} {p q : Flow} {x : Called} → Grew piece p text ends rows q text' ends' rows' x
-    → (length text' ≡ length text) × (length ends' ≡ length ends) × (length rows' ≡ length rows)
-grew-sizes g = (put-size g.text_on, put-size g.ends_on, put-size g.rows_on)
-
--- what the code has computed of a byte's output
-when-length : (x : Bool) (n : ℕ) → length (when x n) ≡ one x
-when-length true n = refl
-when-length false n = refl
-
-module _ (m : ℕ) (c : Check) (b : ℕ) (e : Check) {d : Due} (q : d ≡ record { blanks = blanks_due m c e; byte = puts_text c e && byte_left c; end = ends_field e; row = ends_record e }) where
-  due-text : (due m c b e).text ≡ replicate d.blanks 0x20 ++ when d.byte b
-  due-text = rw q (ap (λ (o : Out). o.text) (due-is m c b e))
-
-  due-ends : (due m c b e).ends ≡ when d.end e.counts.text
-  due-ends = rw q (ap (λ (o : Out). o.ends) (due-is m c b e))
-
-  due-rows : (due m c b e).rows ≡ when d.row e.counts.fields.0
-  due-rows = rw q (ap (λ (o : Out). o.rows) (due-is m c b e))
-
-  text-length : length (due m c b e).text ≡ d.blanks + one d.byte
-  text-length =
-      let sp : ℕ = 0x20 in
-      ap length due-text ∙ (length-append (replicate d.blanks sp) (when d.byte b) ∙ rw (length-replicate d.blanks sp, when-length d.byte b))
-
-  ends-length : length (due m c b e).ends ≡ one d.end
-  ends-length = ap length due-ends ∙ when-length d.end e.counts.text
-
-  rows-length : length (due m c b e).rows ≡ one d.row
-  rows-length = ap length due-rows ∙ when-length d.row e.counts.fields.0
-
-  blanks-are : d.blanks ≡ blanks_due m c e
-  blanks-are = ap (λ (x : Due). x.blanks) q
-
-  short-is-of :
-      (r : Room)
-      → cond (leb (d.blanks + one d.byte) r.text) (cond (leb (one d.end) r.ends) (cond (leb (one d.row) r.rows) 0 13) 12) 11 ≡ short_of (due m c b e) r
-  short-is-of r = sym (short-is (due m c b e) r ∙ rw (text-length, ends-length, rows-length))
+-- where no buffer is short there is room
+pub fits-left :
+    (p : Flow) (l : Lengths) (u : Out) → Inside p l → 0 ≡ short_of u (room_left p l)
+    → (p.text + length u.text ≤ l.text) × (p.ends + length u.ends ≤ l.ends) × (p.rows + length u.rows ≤ l.rows)
+fits-left p l u w z =
+    let f = fits-parts u (room_left p l) (short-fits u (room_left p l) (sym z)) in (omega (arith, f.0, w.text_in), omega (arith, f.1, w.ends_in), omega (arith, f.2, w.rows_in))
 
 -- where the call ends
-abbrev pub stilled : Flow → ℕ → Flow
-stilled p n = record { state = p.state; taken = p.taken; text = p.text; ends = p.ends; rows = p.rows; short = n }
+abbrev pub stilled : Flow → Flow
+stilled p = record { state = p.state; taken = p.taken; text = p.text; ends = p.ends; rows = p.rows; short = None }
 
-module _ {piece text : Bytes} {ends rows : List ℕ} {p : Flow} (w : Inside p piece text ends rows) where
-  idle-grew : rest_of p piece text ends rows ≡ idle p.state → Grew piece p text ends rows (stilled p 0) text ends rows (stop_at (stilled p 0))
-  idle-grew e =
+module _ (piece : Bytes) (B : Lists) (p : Flow) (w : Inside p (lengths piece B)) where
+  idle-took : rest_of p piece B ≡ idle p.state → Took piece p B (stilled p) B
+  idle-took e =
       let z : p.taken - p.taken ≡ 0 = omega arith in
       record {
-        new = nothing;
         on = omega arith;
-        inside = w.taken_in;
-        model = e ∙ (adds_none (idle p.state) ∙ ap (λ (k : ℕ). adding k nothing (idle p.state)) (sym z));
-        text_on = put-none w.text_in;
-        ends_on = put-none w.ends_in;
-        rows_on = put-none w.rows_in;
+        took = λ l. absurd (omega arith);
+        ended = λ n. record {
+          new = nothing;
+          on = omega arith;
+          inside = w.taken_in;
+          model = e ∙ (adds_none (idle p.state) ∙ ap (λ (k : ℕ). adding k nothing (idle p.state)) (sym z));
+          text_on = put-none w.text_in;
+          ends_on = put-none w.ends_in;
+          rows_on = put-none w.rows_in;
+        };
       }
 
   -- at the end of the piece, or of the stream
-  end-grew : length piece ≤ p.taken → Grew piece p text ends rows (stilled p 0) text ends rows (stop_at (stilled p 0))
-  end-grew l = idle-grew (ap (λ (f : Bytes). streamed p.state f (room_at p text ends rows)) (drop_of_length-le piece l) ∙ streamed-none p.state (room_at p text ends rows))
+  pub end-took : p.taken ≡ length piece → Took piece p B (stilled p) B
+  end-took l = idle-took (ap (λ (f : Bytes). streamed p.state f (room_at p B)) (drop_of_length-le piece (omega (arith, l))) ∙ streamed-none p.state (room_at p B))
 
-  over-grew : is_over p.state ≡ true → Grew piece p text ends rows (stilled p 0) text ends rows (stop_at (stilled p 0))
-  over-grew h = idle-grew (streamed-over p.state (room_at p text ends rows) (drop p.taken piece) h)
-
-  pub at-end-grew : (leb (length piece) p.taken || is_over p.state) ≡ true → Grew piece p text ends rows (stilled p 0) text ends rows (stop_at (stilled p 0))
-  at-end-grew h = by (leb (length piece) p.taken) refl
-    where
-      by : (x : Bool) → leb (length piece) p.taken ≡ x → Grew piece p text ends rows (stilled p 0) text ends rows (stop_at (stilled p 0))
-      by true e = end-grew (leb-true (length piece) p.taken e)
-      by false e = over-grew (rw e at h)
-
-  pub ended-took : {q : Flow} → q ≡ stilled p 0 → Grew piece p text ends rows (stilled p 0) text ends rows (stop_at (stilled p 0)) → Took piece p text ends rows q text ends rows
-  ended-took e g = rw e (record { on = omega arith; took = λ l. absurd (omega arith); ended = λ z. g })
+  pub over-took : is_over p.state ≡ true → Took piece p B (stilled p) B
+  over-took h = idle-took (streamed-over p.state (room_at p B) (drop p.taken piece) h)
 
   -- one byte
-  module _ (l : p.taken < length piece) (h : is_over p.state ≡ false) where
+  module _ (n : p.taken ≡ length piece → ⊥) (h : is_over p.state ≡ false) where
+    l : p.taken < length piece
+    l = omega (arith, n, w.taken_in)
+
     abbrev b : ℕ
     b = get_or piece p.taken 0
 
@@ -184,27 +153,26 @@ module _ {piece text : Bytes} {ends rows : List ℕ} {p : Flow} (w : Inside p pi
     first : drop p.taken piece ≡ b ∷ drop (p.taken + 1) piece
     first = rw (add-one p.taken) (drop-cons piece p.taken 0 l)
 
-    rest_is : rest_of p piece text ends rows ≡ streamed p.state (b ∷ drop (p.taken + 1) piece) (room_at p text ends rows)
-    rest_is = ap (λ (f : Bytes). streamed p.state f (room_at p text ends rows)) first
+    rest_is : rest_of p piece B ≡ streamed p.state (b ∷ drop (p.taken + 1) piece) (room_at p B)
+    rest_is = ap (λ (f : Bytes). streamed p.state f (room_at p B)) first
 
     abbrev next : ℕ → ℕ → ℕ → Flow
-    next n m k = record { state = onward (fed c b); taken = p.taken + 1; text = n; ends = m; rows = k; short = 0 }
+    next n m k = record { state = onward (fed c b); taken = p.taken + 1; text = n; ends = m; rows = k; short = None }
 
     abbrev behind_byte : Check → Flow
-    behind_byte d = record { state = onward d; taken = p.taken + 1; text = p.text; ends = p.ends; rows = p.rows; short = 0 }
+    behind_byte d = record { state = onward d; taken = p.taken + 1; text = p.text; ends = p.ends; rows = p.rows; short = None }
 
     one_on : p.taken + 1 - p.taken ≡ 1
     one_on = omega arith
 
     -- that shows a refusal
-    pub shown-took : {d : Check} → d ≡ fed c b → shown d ≡ true → {q : Flow} → q ≡ record { state = onward d; taken = p.taken + 1; text = p.text; ends = p.ends; rows = p.rows; short = 0 } → Took piece p text ends rows q text ends rows
+    pub shown-took : {e : Check} → e ≡ fed c b → shown e ≡ true → {q : Flow} → q ≡ behind_byte e → Took piece p B q B
     shown-took x j u =
         let i : shown (fed c b) ≡ true = rw x at j in
-        let e = u ∙ ap behind_byte x in
         let v : is_over (onward (fed c b)) ≡ true = rw i in
         let q₀ = next p.text p.ends p.rows in
-        let y : rest_of q₀ piece text ends rows ≡ idle (onward (fed c b)) = streamed-over (onward (fed c b)) (room_at q₀ text ends rows) (drop (p.taken + 1) piece) v in
-        rw e
+        let y : rest_of q₀ piece B ≡ idle (onward (fed c b)) = streamed-over (onward (fed c b)) (room_at q₀ B) (drop (p.taken + 1) piece) v in
+        rw (u ∙ ap behind_byte x)
         (record {
           on = omega arith;
           ended = λ z. absurd (omega arith);
@@ -213,7 +181,7 @@ module _ {piece text : Bytes} {ends rows : List ℕ} {p : Flow} (w : Inside p pi
             on = omega arith;
             inside = omega arith;
             model = rest_is
-                ∙ (streamed-shown p.state (room_at p text ends rows) b (drop (p.taken + 1) piece) h i
+                ∙ (streamed-shown p.state (room_at p B) b (drop (p.taken + 1) piece) h i
                 ∙ λ j. adding (sym one_on j) nothing (sym y j));
             text_on = put-none w.text_in;
             ends_on = put-none w.ends_in;
@@ -224,21 +192,21 @@ module _ {piece text : Bytes} {ends rows : List ℕ} {p : Flow} (w : Inside p pi
     module _ (i : shown (fed c b) ≡ false) where
       -- whose output fits
       due-took :
-          fits o (room_at p text ends rows) ≡ true → {q : Flow} {text' ends' rows' : List ℕ}
+          fits o (room_at p B) ≡ true → {q : Flow} {B' : Lists}
           → q ≡ next (p.text + length o.text) (p.ends + length o.ends) (p.rows + length o.rows)
-          → p.text + length o.text ≤ length text → p.ends + length o.ends ≤ length ends → p.rows + length o.rows ≤ length rows
-          → text' ≡ sets text p.text o.text → ends' ≡ sets ends p.ends o.ends → rows' ≡ sets rows p.rows o.rows
-          → Took piece p text ends rows q text' ends' rows'
-      due-took j {text' = text'} {ends'} {rows'} e k₁ k₂ k₃ t₁ t₂ t₃ =
+          → p.text + length o.text ≤ length B.text → p.ends + length o.ends ≤ length B.ends → p.rows + length o.rows ≤ length B.rows
+          → B'.text ≡ sets B.text p.text o.text → B'.ends ≡ sets B.ends p.ends o.ends → B'.rows ≡ sets B.rows p.rows o.rows
+          → Took piece p B q B'
+      due-took j {B' = B'} e k₁ k₂ k₃ t₁ t₂ t₃ =
           let q₀ = next (p.text + length o.text) (p.ends + length o.ends) (p.rows + length o.rows) in
-          let w₁ : Put text p.text o.text text' (p.text + length o.text) = record { room = k₁; buf_is = t₁; at_is = refl } in
-          let w₂ : Put ends p.ends o.ends ends' (p.ends + length o.ends) = record { room = k₂; buf_is = t₂; at_is = refl } in
-          let w₃ : Put rows p.rows o.rows rows' (p.rows + length o.rows) = record { room = k₃; buf_is = t₃; at_is = refl } in
-          let x : length text - p.text - length o.text ≡ length text' - (p.text + length o.text) = omega (arith, put-size w₁) in
-          let y : length ends - p.ends - length o.ends ≡ length ends' - (p.ends + length o.ends) = omega (arith, put-size w₂) in
-          let z : length rows - p.rows - length o.rows ≡ length rows' - (p.rows + length o.rows) = omega (arith, put-size w₃) in
-          let r : left o (room_at p text ends rows) ≡ room_at q₀ text' ends' rows' = λ n. record { text = x n; ends = y n; rows = z n } in
-          let a : suc (rest_of q₀ piece text' ends' rows').taken ≡ p.taken + 1 - p.taken + (rest_of q₀ piece text' ends' rows').taken = omega arith in
+          let w₁ : Put B.text p.text o.text B'.text (p.text + length o.text) = record { room = k₁; buf_is = t₁; at_is = refl } in
+          let w₂ : Put B.ends p.ends o.ends B'.ends (p.ends + length o.ends) = record { room = k₂; buf_is = t₂; at_is = refl } in
+          let w₃ : Put B.rows p.rows o.rows B'.rows (p.rows + length o.rows) = record { room = k₃; buf_is = t₃; at_is = refl } in
+          let x : length B.text - p.text - length o.text ≡ length B'.text - (p.text + length o.text) = omega (arith, put-size w₁) in
+          let y : length B.ends - p.ends - length o.ends ≡ length B'.ends - (p.ends + length o.ends) = omega (arith, put-size w₂) in
+          let z : length B.rows - p.rows - length o.rows ≡ length B'.rows - (p.rows + length o.rows) = omega (arith, put-size w₃) in
+          let r : left o (room_at p B) ≡ room_at q₀ B' = λ n. record { text = x n; ends = y n; rows = z n } in
+          let a : suc (rest_of q₀ piece B').taken ≡ p.taken + 1 - p.taken + (rest_of q₀ piece B').taken = omega arith in
           rw e
           (record {
             on = omega arith;
@@ -248,9 +216,9 @@ module _ {piece text : Bytes} {ends rows : List ℕ} {p : Flow} (w : Inside p pi
               on = omega arith;
               inside = omega arith;
               model = rest_is
-                  ∙ (streamed-taken p.state (room_at p text ends rows) b (drop (p.taken + 1) piece) h i j
+                  ∙ (streamed-taken p.state (room_at p B) b (drop (p.taken + 1) piece) h i j
                   ∙ (ap (λ (m : Room). taking o (streamed (onward (fed c b)) (drop (p.taken + 1) piece) m)) r
-                  ∙ λ n. record { taken = a n; out = then o (rest_of q₀ piece text' ends' rows').out; short = (rest_of q₀ piece text' ends' rows').short; state = (rest_of q₀ piece text' ends' rows').state }));
+                  ∙ λ n. record { taken = a n; out = then o (rest_of q₀ piece B').out; short = (rest_of q₀ piece B').short; state = (rest_of q₀ piece B').state }));
               text_on = w₁;
               ends_on = w₂;
               rows_on = w₃;
@@ -258,35 +226,34 @@ module _ {piece text : Bytes} {ends rows : List ℕ} {p : Flow} (w : Inside p pi
           })
 
       -- whose output does not
-      abbrev blanks : ℕ
-      blanks = min (blanks_due p.state.early c (fed c b)) (length text - p.text)
-
       stuck-took :
-          fits o (room_at p text ends rows) ≡ false → {q : Flow} {text' : List ℕ}
-          → q ≡ record { state = record { check = c; early = p.state.early + blanks; closed = p.state.closed }; taken = p.taken; text = p.text + blanks; ends = p.ends; rows = p.rows; short = short_of o (room_at p text ends rows) }
-          → text' ≡ sets text p.text (replicate blanks 0x20) → Took piece p text ends rows q text' ends rows
-      stuck-took j e t =
-          let k = w.text_in in
-          let n : length {A = ℕ} (replicate blanks 0x20) ≡ blanks = length-replicate blanks 0x20 in
+          fits o (room_at p B) ≡ false → (k : ℕ) → k ≡ min (blanks_due p.state.early c (fed c b)) (length B.text - p.text) → {short : Buffer}
+          → buffer_number short ≡ short_of o (room_at p B) → {q : Flow} {text' : List ℕ}
+          → q ≡ record { state = record { check = c; early = p.state.early + k; closed = p.state.closed }; taken = p.taken; text = p.text + k; ends = p.ends; rows = p.rows; short = Some short }
+          → text' ≡ sets B.text p.text (replicate k 0x20) → Took piece p B q (record { text = text'; ends = B.ends; rows = B.rows })
+      stuck-took j k a {short} v e t =
+          let m = w.text_in in
+          let n : length {A = ℕ} (replicate k 0x20) ≡ k = length-replicate k 0x20 in
           let y : 0 ≡ p.taken - p.taken + 0 = omega arith in
           let sp : ℕ = 0x20 in
-          let u : replicate blanks sp ≡ replicate blanks sp ++ [] = sym (append-nil (replicate blanks sp)) in
+          let u : replicate k sp ≡ replicate k sp ++ [] = sym (append-nil (replicate k sp)) in
           rw e
           (record {
             on = omega arith;
             took = λ z. absurd (omega arith);
             ended = λ z. record {
-              new = record { text = replicate blanks 0x20; ends = []; rows = [] };
+              new = record { text = replicate k 0x20; ends = []; rows = [] };
               on = omega arith;
               inside = w.taken_in;
               model = rest_is
-                  ∙ (streamed-stuck p.state (room_at p text ends rows) b (drop (p.taken + 1) piece) h i j
+                  ∙ (streamed-stuck p.state (room_at p B) b (drop (p.taken + 1) piece) h i j
+                  ∙ (ap (stuck p.state o (room_at p B)) (sym a)
                   ∙ λ m. record {
                     taken = y m;
                     out = record { text = u m; ends = []; rows = [] };
-                    short = short_of o (room_at p text ends rows);
-                    state = record { check = c; early = p.state.early + blanks; closed = p.state.closed };
-                  });
+                    short = sym v m;
+                    state = record { check = c; early = p.state.early + k; closed = p.state.closed };
+                  }));
               text_on = record { room = omega arith; buf_is = t; at_is = omega arith };
               ends_on = put-none w.ends_in;
               rows_on = put-none w.rows_in;
@@ -294,105 +261,58 @@ module _ {piece text : Bytes} {ends rows : List ℕ} {p : Flow} (w : Inside p pi
           })
 
       -- by what the code has computed of it, and of the buffer that is short
-      abbrev due_by : Check → Due
-      due_by e = record { blanks = blanks_due p.state.early c e; byte = puts_text c e && byte_left c; end = ends_field e; row = ends_record e }
+      module _ {e : Check} (x : e ≡ fed c b) (d : Due) (y : due_out d ≡ due p.state.early c b e) where
+        is-due : due_out d ≡ o
+        is-due = y ∙ ap (due p.state.early c b) x
 
-      abbrev short_by : Due → ℕ
-      short_by d =
-          cond (leb (d.blanks + one d.byte) (length text - p.text))
-          (cond (leb (one d.end) (length ends - p.ends)) (cond (leb (one d.row) (length rows - p.rows)) 0 13) 12) 11
+        module _ (z : 0 ≡ short_of (due_out d) (room_at p B)) where
+          z' : 0 ≡ short_of o (room_at p B)
+          z' = z ∙ ap (λ (u : Out). short_of u (room_at p B)) is-due
 
-      module _ {e : Check} (x : e ≡ fed c b) {d : Due} (y : d ≡ due_by e) {n : ℕ} (z : n ≡ short_by d) where
-        due-by : d ≡ due_by (fed c b)
-        due-by = y ∙ ap due_by x
-
-        short-by : n ≡ short_of o (room_at p text ends rows)
-        short-by = z ∙ short-is-of p.state.early c b (fed c b) due-by (room_at p text ends rows)
-
-        text-many : length o.text ≡ d.blanks + one d.byte
-        text-many = text-length p.state.early c b (fed c b) due-by
-
-        ends-many : length o.ends ≡ one d.end
-        ends-many = ends-length p.state.early c b (fed c b) due-by
-
-        rows-many : length o.rows ≡ one d.row
-        rows-many = rows-length p.state.early c b (fed c b) due-by
-
-        pub put-room :
-            n ≡ 0 → (p.text + (d.blanks + one d.byte) ≤ length text) × ((p.ends + one d.end ≤ length ends) × (p.rows + one d.row ≤ length rows))
-        put-room k =
-            let f = fits-parts o (room_at p text ends rows) (short-fits o (room_at p text ends rows) (sym short-by ∙ k)) in
-            (omega (arith, f.0, text-many, w.text_in), (omega (arith, f.1, ends-many, w.ends_in), omega (arith, f.2, rows-many, w.rows_in)))
-
-        pub put-took :
-            n ≡ 0 → {q : Flow} {text' ends' rows' : List ℕ}
-            → q ≡ record { state = onward e; taken = p.taken + 1; text = p.text + (d.blanks + one d.byte); ends = p.ends + one d.end; rows = p.rows + one d.row; short = 0 }
-            → text' ≡ sets text p.text (replicate d.blanks 0x20 ++ when d.byte b) → ends' ≡ sets ends p.ends (when d.end e.counts.text)
-            → rows' ≡ sets rows p.rows (when d.row e.counts.fields.0) → Took piece p text ends rows q text' ends' rows'
-        put-took k u t₁ t₂ t₃ =
-            let f = put-room k in
-            due-took (short-fits o (room_at p text ends rows) (sym short-by ∙ k))
-            (u ∙ λ j. record { state = onward (x j); taken = p.taken + 1; text = p.text + sym text-many j; ends = p.ends + sym ends-many j; rows = p.rows + sym rows-many j; short = 0 })
-            (omega (arith, f.0, text-many)) (omega (arith, f.1.0, ends-many)) (omega (arith, f.1.1, rows-many))
-            (t₁ ∙ ap (sets text p.text) (sym (due-text p.state.early c b (fed c b) due-by)))
-            (t₂ ∙ (λ j. sets ends p.ends (when d.end (x j).counts.text)) ∙ ap (sets ends p.ends) (sym (due-ends p.state.early c b (fed c b) due-by)))
-            (t₃ ∙ (λ j. sets rows p.rows (when d.row (x j).counts.fields.0)) ∙ ap (sets rows p.rows) (sym (due-rows p.state.early c b (fed c b) due-by)))
+          pub put-took :
+              {q : Flow} {B' : Lists}
+              → q ≡ record { state = onward e; taken = p.taken + 1; text = p.text + length (due_out d).text; ends = p.ends + length (due_out d).ends; rows = p.rows + length (due_out d).rows; short = None }
+              → B'.text ≡ sets B.text p.text (due_out d).text → B'.ends ≡ sets B.ends p.ends (due_out d).ends → B'.rows ≡ sets B.rows p.rows (due_out d).rows
+              → Took piece p B q B'
+          put-took u t₁ t₂ t₃ =
+              let (f₁, f₂, f₃) = fits-left p (lengths piece B) o w z' in
+              due-took (short-fits o (room_at p B) (sym z')) (u ∙ λ j. record { state = onward (x j); taken = p.taken + 1; text = p.text + length (is-due j).text; ends = p.ends + length (is-due j).ends; rows = p.rows + length (is-due j).rows; short = None })
+              f₁ f₂ f₃ (t₁ ∙ ap (λ (u : Out). sets B.text p.text u.text) is-due) (t₂ ∙ ap (λ (u : Out). sets B.ends p.ends u.ends) is-due) (t₃ ∙ ap (λ (u : Out). sets B.rows p.rows u.rows) is-due)
 
         pub stick-took :
-            (n ≡ 0 → ⊥) → {q : Flow} {text' : List ℕ}
-            → q ≡ record { state = record { check = c; early = p.state.early + min d.blanks (length text - p.text); closed = p.state.closed }; taken = p.taken; text = p.text + min d.blanks (length text - p.text); ends = p.ends; rows = p.rows; short = n }
-            → text' ≡ sets text p.text (replicate (min d.blanks (length text - p.text)) 0x20) → Took piece p text ends rows q text' ends rows
-        stick-took k u t =
-            let a = blanks-are p.state.early c b (fed c b) due-by in
-            stuck-took (short-not o (room_at p text ends rows) (λ s. k (short-by ∙ s)))
-            (u ∙ λ j. record { state = record { check = c; early = p.state.early + min (a j) (length text - p.text); closed = p.state.closed }; taken = p.taken; text = p.text + min (a j) (length text - p.text); ends = p.ends; rows = p.rows; short = short-by j })
-            (t ∙ λ j. sets text p.text (replicate (min (a j) (length text - p.text)) 0x20))
-
--- inside by the lengths
-pub inside-parts : (p : Flow) (a b c d : ℕ) → inside_by p a b c d ≡ true → (p.taken ≤ a) × (p.text ≤ b) × (p.ends ≤ c) × (p.rows ≤ d)
-inside-parts p a b c d h =
-    let x = and_both ((leb p.taken a && leb p.text b) && leb p.ends c) (leb p.rows d) h in
-    let y = and_both (leb p.taken a && leb p.text b) (leb p.ends c) x.0 in
-    let z = and_both (leb p.taken a) (leb p.text b) y.0 in
-    (leb-true p.taken a z.0, leb-true p.text b z.1, leb-true p.ends c y.1, leb-true p.rows d x.1)
-
-module _ (p : Flow) (piece text : Bytes) (ends rows : List ℕ) where
-  pub by-inside : inside_by p (length piece) (length text) (length ends) (length rows) ≡ true → Inside p piece text ends rows
-  by-inside h =
-      let x = inside-parts p (length piece) (length text) (length ends) (length rows) h in
-      record { taken_in = x.0; text_in = x.1; ends_in = x.2; rows_in = x.3 }
-
-  pub inside-by : Inside p piece text ends rows → inside_by p (length piece) (length text) (length ends) (length rows) ≡ true
-  inside-by w =
-      rw (le-leb p.taken (length piece) w.taken_in, le-leb p.text (length text) w.text_in, le-leb p.ends (length ends) w.ends_in, le-leb p.rows (length rows) w.rows_in)
-
--- by one byte, or none, the buffers keep their lengths
-pub took-sizes :
-    {piece : Bytes} {text ends rows text' ends' rows' : List ℕ} {p q : Flow} → Took piece p text ends rows q text' ends' rows'
-    → (length text' ≡ length text) × (length ends' ≡ length ends) × (length rows' ≡ length rows)
-took-sizes {text = text} {ends} {rows} {text'} {ends'} {rows'} {p = p} {q} w = by (leb q.taken p.taken) refl
-  where
-    by : (y : Bool) → leb q.taken p.taken ≡ y → (length text' ≡ length text) × (length ends' ≡ length ends) × (length rows' ≡ length rows)
-    by true e = let l = leb-true q.taken p.taken e in let i = w.on in grew-sizes (w.ended (omega arith))
-    by false e = grew-sizes (w.took (leb-false q.taken p.taken e))
+            {short : Buffer} → buffer_number short ≡ short_of (due_out d) (room_at p B) → d.blanks ≡ blanks_due p.state.early c e → (k : ℕ)
+            → k ≡ min d.blanks (length B.text - p.text) → {q : Flow} {text' : List ℕ}
+            → q ≡ record { state = record { check = c; early = p.state.early + k; closed = p.state.closed }; taken = p.taken; text = p.text + k; ends = p.ends; rows = p.rows; short = Some short }
+            → text' ≡ sets B.text p.text (replicate k 0x20) → Took piece p B q (record { text = text'; ends = B.ends; rows = B.rows })
+        stick-took {short} z a k v u t =
+            let s : buffer_number short ≡ short_of o (room_at p B) = z ∙ ap (λ (u : Out). short_of u (room_at p B)) is-due in
+            stuck-took (short-not o (room_at p B) (λ e. some-short short (s ∙ e))) k (v ∙ (λ j. min ((a ∙ ap (blanks_due p.state.early c) x) j) (length B.text - p.text))) s u t
+          where
+            some-short : (b : Buffer) → buffer_number b ≡ 0 → ⊥
+            some-short Text e = omega (arith, e)
+            some-short Ends e = omega (arith, e)
+            some-short Rows e = omega (arith, e)
 
 -- Two calls that have come as far have written the same.
 same-front : {A : Type 0} (xs ys r s : List A) → xs ++ r ≡ ys ++ s → length xs ≡ length ys → xs ≡ ys
 same-front xs ys r s e l = sym (take-append_seam xs r) ∙ rw (e, l) (take-append_seam ys s)
 
 pub one-grew :
-    {piece : Bytes} {text ends rows t₁ e₁ r₁ t₂ e₂ r₂ : List ℕ} {p q₁ q₂ : Flow} {x₁ x₂ : Called} → Grew piece p text ends rows q₁ t₁ e₁ r₁ x₁
-    → Grew piece p text ends rows q₂ t₂ e₂ r₂ x₂ → q₁.text ≡ q₂.text → q₁.ends ≡ q₂.ends → q₁.rows ≡ q₂.rows → (t₁ ≡ t₂) × (e₁ ≡ e₂) × (r₁ ≡ r₂)
-one-grew {text = text} {ends} {rows} {p = p} {x₁ = x₁} {x₂} g h a b c =
+    {piece : Bytes} {B C D : Lists} {p q r : Flow} {x y : Called} → Grew piece p B q C x → Grew piece p B r D y → q.text ≡ r.text → q.ends ≡ r.ends → q.rows ≡ r.rows → C ≡ D
+one-grew {B = B} {p = p} {x = x} {y} g h a b c =
     let m = sym g.model ∙ h.model in
-    let t = same-front g.new.text h.new.text x₁.out.text x₂.out.text (ap (λ (y : Called). y.out.text) m) (omega (arith, g.text_on.at_is, h.text_on.at_is)) in
-    let e = same-front g.new.ends h.new.ends x₁.out.ends x₂.out.ends (ap (λ (y : Called). y.out.ends) m) (omega (arith, g.ends_on.at_is, h.ends_on.at_is)) in
-    let r = same-front g.new.rows h.new.rows x₁.out.rows x₂.out.rows (ap (λ (y : Called). y.out.rows) m) (omega (arith, g.rows_on.at_is, h.rows_on.at_is)) in
-    (g.text_on.buf_is ∙ ap (sets text p.text) t ∙ sym h.text_on.buf_is, g.ends_on.buf_is ∙ ap (sets ends p.ends) e ∙ sym h.ends_on.buf_is, g.rows_on.buf_is ∙ ap (sets rows p.rows) r ∙ sym h.rows_on.buf_is)
+    let t = same-front g.new.text h.new.text x.out.text y.out.text (ap (λ (z : Called). z.out.text) m) (omega (arith, g.text_on.at_is, h.text_on.at_is)) in
+    let e = same-front g.new.ends h.new.ends x.out.ends y.out.ends (ap (λ (z : Called). z.out.ends) m) (omega (arith, g.ends_on.at_is, h.ends_on.at_is)) in
+    let r = same-front g.new.rows h.new.rows x.out.rows y.out.rows (ap (λ (z : Called). z.out.rows) m) (omega (arith, g.rows_on.at_is, h.rows_on.at_is)) in
+    λ i. record {
+      text = (g.text_on.buf_is ∙ ap (sets B.text p.text) t ∙ sym h.text_on.buf_is) i;
+      ends = (g.ends_on.buf_is ∙ ap (sets B.ends p.ends) e ∙ sym h.ends_on.buf_is) i;
+      rows = (g.rows_on.buf_is ∙ ap (sets B.rows p.rows) r ∙ sym h.rows_on.buf_is) i;
+    }
 
 -- where the piece ends the call does
 pub took-end :
-    {piece : Bytes} {text ends rows text' ends' rows' : List ℕ} {p q : Flow} → Took piece p text ends rows q text' ends' rows' → length piece ≤ p.taken → q.taken ≡ p.taken
+    {piece : Bytes} {B B' : Lists} {p q : Flow} → Took piece p B q B' → length piece ≤ p.taken → q.taken ≡ p.taken
 took-end {p = p} {q} w l = by (leb q.taken p.taken) refl
   where
     by : (y : Bool) → leb q.taken p.taken ≡ y → q.taken ≡ p.taken

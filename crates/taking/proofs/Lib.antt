@@ -1,3 +1,2 @@
 pub mod Growing
 pub mod Put
-pub mod Short

@@ -5,16 +5,19 @@
 
 #![tactic(auto)]
 
-ghost use Rattle.std.specs.Prelude.{◌+◌, ◌-◌, ◌≤◌, ◌<◌, min, ◌≡◌, true, false, cond, ◌||◌, ◌++◌, length, replicate, leb};
+ghost use Rattle.std.specs.Prelude.{◌+◌, ◌-◌, ◌^◌, ◌≤◌, ◌<◌, min, ◌≡◌, ◌++◌, None, Some, MatchOption, length, replicate};
+ghost use Rattle.std.specs.Option.{option_to_list};
 ghost use Rattle.std.proofs.lemmas.List.Edits.{sets};
-ghost use Rattle.output.specs.Stream.{is_over, onward, when};
-ghost use Rattle.taking.specs.Walk.{inside_by, Took, Unmoved, one};
+ghost use Rattle.fill.specs.Buffers.{SameBuffers, lists};
+ghost use Rattle.output.specs.Stream.{onward, due_out, short_of, short_number};
+ghost use Rattle.taking.specs.Walk.{begun, room_left, lengths, Inside, Took, Unmoved};
 
-use output::{Due, Stream};
+use fill::Buffers;
+use output::{Buffer, Due, Room, Stream};
 use state::Check;
 
 // How far a call has come: the state, how much of the piece is taken and of each buffer filled, and the
-// buffer that was short, or 0.
+// buffer that was short, if one was.
 #[derive(Clone, Copy)]
 pub struct Flow {
     pub state: Stream,
@@ -22,172 +25,171 @@ pub struct Flow {
     pub text: usize,
     pub ends: usize,
     pub rows: usize,
-    pub short: u32,
+    pub short: Option<Buffer>,
 }
 
-// Whether how far a call has come is in the piece and in each buffer, by their lengths.
-pub fn is_inside(p: Flow, piece: usize, text: usize, ends: usize, rows: usize) -> bool
-    ensures { result ≡ inside_by p piece text ends rows }
-{
-    (p.taken <= piece) & (p.text <= text) & (p.ends <= ends) & (p.rows <= rows)
+// How long the piece and the buffers of a call are.
+#[derive(Clone, Copy)]
+pub struct Lengths {
+    pub piece: usize,
+    pub text: usize,
+    pub ends: usize,
+    pub rows: usize,
 }
 
-// Takes one byte; or the call ends here: where the piece ends, where the stream is over, or before a byte
-// whose output does not all fit. A place that lies outside the piece or a buffer stays.
-pub fn take_byte(p: Flow, piece: &[u8], text: &mut [u8], ends: &mut [u32], rows: &mut [u32]) -> Flow
-    ensures took { inside_by p (length piece.now) (length text.old) (length ends.old) (length rows.old) ≡ true → Took piece.now p text.old ends.old rows.old result text.new ends.new rows.new }
-    ensures unmoved { inside_by p (length piece.now) (length text.old) (length ends.old) (length rows.old) ≡ false → Unmoved p text.old ends.old rows.old result text.new ends.new rows.new }
-{
-    if !is_inside(p, piece.len(), text.len(), ends.len(), rows.len()) {
-        return p;
-    }
-    if is_at_end(p, piece.len()) {
-        return halted(p, p.state.early, p.text, 0);
-    }
-    let at = p.taken;
-    let b = piece[at];
-    let next = at + 1;
-    let e = p.state.check.take(b);
-    if output::is_shown(e) {
-        return behind(e, next, p.text, p.ends, p.rows);
-    }
-    let d = output::due_by(p.state.early, p.state.check, e);
-    let short = short_of(p, d, text.len(), ends.len(), rows.len());
-    if short != 0 {
-        return stick(p, d.blanks, short, text);
-    }
-    put_due(p, next, b, e, d, text, ends, rows)
-}
-
-// Whether no byte is left of the piece, or the stream is over.
-fn is_at_end(p: Flow, piece: usize) -> bool
-    ensures { result ≡ leb piece p.taken || is_over p.state }
-{
-    (piece <= p.taken) | output::is_over(p.state)
-}
-
-// The call ends here, with so many blanks out early.
-fn halted(p: Flow, early: u32, text: usize, short: u32) -> Flow
-    ensures { result ≡ record { state = record { check = p.state.check; early = early; closed = p.state.closed }; taken = p.taken; text = text; ends = p.ends; rows = p.rows; short = short } }
-{
-    let mut q = p;
-    q.state.early = early;
-    q.text = text;
-    q.short = short;
-    q
-}
-
-// Behind some bytes of the piece, by the check's state there and how much of each buffer is filled.
-pub fn behind(e: Check, taken: usize, text: usize, ends: usize, rows: usize) -> Flow
-    ensures { result ≡ record { state = onward e; taken = taken; text = text; ends = ends; rows = rows; short = 0 } }
-{
-    let state = output::onward_from(e);
-    Flow {
-        state,
-        taken,
-        text,
-        ends,
-        rows,
-        short: 0,
+impl Lengths {
+    pub fn new(piece: &[u8], to: &Buffers) -> Lengths
+        ensures { result ≡ lengths piece.now (lists to.now) }
+    {
+        Lengths {
+            piece: piece.len(),
+            text: to.text.len(),
+            ends: to.ends.len(),
+            rows: to.rows.len(),
+        }
     }
 }
 
-// The buffer that is too small for what a byte puts out, the lowest number first, or 0.
-fn short_of(p: Flow, d: Due, text: usize, ends: usize, rows: usize) -> u32
-    ensures { result ≡ cond (leb (d.blanks + one d.byte) (text - p.text)) (cond (leb (one d.end) (ends - p.ends)) (cond (leb (one d.row) (rows - p.rows)) 0 13) 12) 11 }
-{
-    if minus(text, p.text) < (d.blanks as usize) + number(d.byte) {
-        return 11;
+impl Flow {
+    // A call that has taken nothing.
+    pub fn new(state: Stream) -> Flow
+        ensures { result ≡ begun state }
+    {
+        Flow {
+            state,
+            taken: 0,
+            text: 0,
+            ends: 0,
+            rows: 0,
+            short: None,
+        }
     }
-    if minus(ends, p.ends) < number(d.end) {
-        return 12;
+
+    // The room that is left, if how far the call has come is in the piece and in each buffer.
+    pub fn room(self, lengths: Lengths) -> Option<Room>
+        ensures { MatchOption result (¬ Inside self lengths) (λ r. Inside self lengths × (r ≡ room_left self lengths)) }
+    {
+        if lengths.piece < self.taken {
+            return None;
+        }
+        Some(Room {
+            text: lengths.text.checked_sub(self.text)?,
+            ends: lengths.ends.checked_sub(self.ends)?,
+            rows: lengths.rows.checked_sub(self.rows)?,
+        })
     }
-    if minus(rows, p.rows) < number(d.row) {
-        return 13;
+
+    // Further in the piece, behind bytes that put out nothing, by the check's state there.
+    pub fn onward(self, check: Check, taken: usize) -> Flow
+        ensures { result ≡ record { state = onward check; taken = taken; text = self.text; ends = self.ends; rows = self.rows; short = None } }
+    {
+        Flow {
+            state: Stream::onward(check),
+            taken,
+            short: None,
+            ..self
+        }
     }
-    0
+
+    // Takes one byte; or the call ends here: where the piece ends, where the stream is over, or before a
+    // byte whose output does not all fit. A place that lies outside the piece or a buffer stays.
+    pub fn take_byte(self, piece: &[u8], to: &mut Buffers) -> Flow
+        ensures same { SameBuffers to.old to.new }
+        ensures took { Inside self (lengths piece.now (lists to.old)) → Took piece.now self (lists to.old) result (lists to.new) }
+        ensures unmoved { ¬ Inside self (lengths piece.now (lists to.old)) → Unmoved self (lists to.old) result (lists to.new) }
+    {
+        let Some(room) = self.room(Lengths::new(piece, to)) else {
+            return self;
+        };
+        if self.taken == piece.len() || self.state.is_over() {
+            return Flow {
+                short: None,
+                ..self
+            };
+        }
+        let b = piece[self.taken];
+        let check = self.state.check.take(b);
+        let behind = self.onward(check, self.taken + 1);
+        if output::is_shown(check) {
+            return behind;
+        }
+        let due = self.state.due(b, check);
+        if let Some(short) = short_of(room, due) {
+            return self.stick(due.blanks, short, to.text);
+        }
+        Flow {
+            text: put_text(to.text, self.text, due),
+            ends: put_entry(to.ends, self.ends, due.end),
+            rows: put_entry(to.rows, self.rows, due.row),
+            ..behind
+        }
+    }
+
+    // Stops before a byte whose output does not all fit: of that only held blanks come out, as many as do.
+    #[tactic(auto, using(crate::proofs::Put::parts))]
+    fn stick(self, blanks: u32, short: Buffer, text: &mut [u8]) -> Flow
+        requires text_in_bounds { self.text ≤ length text.old }
+        requires early_bound { self.state.early + blanks < 2 ^ 32 }
+        ensures value { let k = min blanks (length text.old - self.text) in result ≡ record { state = record { check = self.state.check; early = self.state.early + k; closed = self.state.closed }; taken = self.taken; text = self.text + k; ends = self.ends; rows = self.rows; short = Some short } }
+        ensures text_after { text.new ≡ sets text.old self.text (replicate (min blanks (length text.old - self.text)) 0x20) }
+    {
+        let count = (blanks as usize).min(text.len() - self.text);
+        let end = self.text + count;
+        text[self.text..end].fill(b' ');
+        Flow {
+            state: Stream {
+                early: self.state.early + count as u32,
+                ..self.state
+            },
+            text: end,
+            short: Some(short),
+            ..self
+        }
+    }
 }
 
-// 1 for yes.
-fn number(x: bool) -> usize
-    ensures { result ≡ one x }
+// The buffer that is too small for what a byte puts out, the first of them.
+#[tactic(auto, unfolding(output::specs::Stream::short_of))]
+fn short_of(room: Room, due: Due) -> Option<Buffer>
+    ensures { short_number result ≡ short_of (due_out due) room }
 {
-    if x { 1 } else { 0 }
-}
-
-// Stops before a byte whose output does not all fit: of that only held blanks come out, as many as do.
-fn stick(p: Flow, blanks: u32, short: u32, text: &mut [u8]) -> Flow
-    requires text_in_bounds { p.text ≤ length text.old }
-    requires text_bound { p.state.early + min blanks (length text.old - p.text) ≤ 4294967295 }
-    ensures value { result ≡ record { state = record { check = p.state.check; early = p.state.early + min blanks (length text.old - p.text); closed = p.state.closed }; taken = p.taken; text = p.text + min blanks (length text.old - p.text); ends = p.ends; rows = p.rows; short = short } }
-    ensures text_after { text.new ≡ sets text.old p.text (replicate (min blanks (length text.old - p.text)) 0x20) }
-{
-    let k = smaller(blanks as usize, text.len() - p.text);
-    let at = fill::put_run(text, p.text, k, 0x20);
-    halted(p, p.state.early + (k as u32), at, short)
-}
-
-// Writes what a byte puts out, all of it, and goes on to the next.
-fn put_due(
-    p: Flow,
-    next: usize,
-    b: u8,
-    e: Check,
-    d: Due,
-    text: &mut [u8],
-    ends: &mut [u32],
-    rows: &mut [u32],
-) -> Flow
-    requires byte_in_bounds { p.text + (d.blanks + one d.byte) ≤ length text.old }
-    requires end_in_bounds { p.ends + one d.end ≤ length ends.old }
-    requires row_in_bounds { p.rows + one d.row ≤ length rows.old }
-    ensures value { result ≡ record { state = onward e; taken = next; text = p.text + (d.blanks + one d.byte); ends = p.ends + one d.end; rows = p.rows + one d.row; short = 0 } }
-    ensures text_after { text.new ≡ sets text.old p.text (replicate d.blanks 0x20 ++ when d.byte b) }
-    ensures ends_after { ends.new ≡ sets ends.old p.ends (when d.end e.counts.text) }
-    ensures rows_after { rows.new ≡ sets rows.old p.rows (when d.row e.counts.fields.0) }
-{
-    let t = put_text(text, p.text, d.blanks as usize, d.byte, b);
-    let k = put_entry(ends, p.ends, d.end, e.counts.text);
-    let o = put_entry(rows, p.rows, d.row, e.counts.fields.0);
-    behind(e, next, t, k, o)
-}
-
-// Writes blanks and then a byte, if it comes out, and says where the text ends.
-fn put_text(text: &mut [u8], at: usize, count: usize, some: bool, b: u8) -> usize
-    requires { at + (count + one some) ≤ length text.old }
-    ensures value { result ≡ at + (count + one some) }
-    ensures text_after { text.new ≡ sets text.old at (replicate count 0x20 ++ when some b) }
-{
-    let i = fill::put_run(text, at, count, 0x20);
-    if some {
-        text[i] = b;
-        return i + 1;
+    if room.text < (due.blanks as usize) + usize::from(due.byte.is_some()) {
+        return Some(Buffer::Text);
     }
-    i
+    if room.ends < usize::from(due.end.is_some()) {
+        return Some(Buffer::Ends);
+    }
+    if room.rows < usize::from(due.row.is_some()) {
+        return Some(Buffer::Rows);
+    }
+    None
+}
+
+// Writes the blanks and the byte that come out, and says where the text ends.
+#[tactic(auto, using(crate::proofs::Put::parts))]
+fn put_text(text: &mut [u8], at: usize, due: Due) -> usize
+    requires { at + length (due_out due).text ≤ length text.old }
+    ensures value { result ≡ at + length (due_out due).text }
+    ensures text_after { text.new ≡ sets text.old at (due_out due).text }
+{
+    let end = at + due.blanks as usize;
+    text[at..end].fill(b' ');
+    let Some(b) = due.byte else {
+        return end;
+    };
+    text[end] = b;
+    end + 1
 }
 
 // Writes an entry if there is one, and says where the next goes.
-fn put_entry(entries: &mut [u32], at: usize, some: bool, n: u32) -> usize
-    requires { at + one some ≤ length entries.old }
-    ensures value { result ≡ at + one some }
-    ensures entries_after { entries.new ≡ sets entries.old at (when some n) }
+fn put_entry(entries: &mut [u32], at: usize, entry: Option<u32>) -> usize
+    requires { at + length (option_to_list entry) ≤ length entries.old }
+    ensures value { result ≡ at + length (option_to_list entry) }
+    ensures entries_after { entries.new ≡ sets entries.old at (option_to_list entry) }
 {
-    if some {
-        entries[at] = n;
-        return at + 1;
-    }
-    at
-}
-
-// A difference, at least 0; the smaller of two numbers.
-fn minus(a: usize, b: usize) -> usize
-    ensures { result ≡ a - b }
-{
-    if b < a { a - b } else { 0 }
-}
-
-fn smaller(a: usize, b: usize) -> usize
-    ensures { result ≡ min a b }
-{
-    if a < b { a } else { b }
+    let Some(n) = entry else {
+        return at;
+    };
+    entries[at] = n;
+    at + 1
 }

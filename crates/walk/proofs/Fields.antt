@@ -1,8 +1,9 @@
 -- The second walk over fields of plain text, found by words of marks: where it stands, and what a mark changes.
+use Rattle.std.specs.Prelude.{Some}
 use Prim.Native.Nat.{ℕ, ◌+◌, ◌-◌, ◌/◌, ◌^◌, ◌≤◌, ◌<◌}
 use native.Mathlib.Omega.{arith}
-use mathlib.Core.Path.{◌≡◌, refl}
-use mathlib.Core.Bool.{Bool, true, false, cond}
+use mathlib.Core.Path.{◌≡◌, ap}
+use mathlib.Core.Bool.{Bool}
 use mathlib.Core.List.{List}
 use lib.ListN.{length, get_or, take, drop}
 use lib.Count.{count_trailing_zeros}
@@ -15,10 +16,13 @@ use Rattle.words.specs.Words.{word, block_end, Stops}
 use Rattle.runs.proofs.Runs.{run_join, run-within}
 use Rattle.words.proofs.Words.{Marked, marked-on, marked-none, marked-some, block}
 use Rattle.fill.specs.declared.Head.{Head}
-use Rattle.fill.specs.Put.{behind}
+use Rattle.fill.specs.Buffers.{Lists}
 use Rattle.fill.specs.Walk.{Wrote}
-use Rattle.fill.proofs.Grown.{wrote_none, wrote_then}
-use Rattle.stride.specs.Stride.{Plain}
+use Rattle.fill.proofs.Grown.{wrote_then}
+use Rattle.fill.specs.declared.Field.{Field}
+use Rattle.fill.specs.Put.{PutsField}
+use Rattle.stride.specs.Stride.{Plain, Found}
+use Rattle.stride.proofs.Walk.{field-wrote}
 
 -- what stays as it is
 pub record Base (d : Dialect) (t : List Bool) (f : Bytes) : Type 0 where
@@ -27,18 +31,13 @@ pub record Base (d : Dialect) (t : List Bool) (f : Bytes) : Type 0 where
   pub no_lf : d.delimiter_byte ≡ 0x0A → ⊥
 
 -- at i, in a field that begins at h; up to i it is plain text
-pub record Fields (d : Dialect) (f : Bytes) (p : Head) (text₀ ends₀ rows₀ : List ℕ) (i : ℕ) (h : Head) (text ends rows : List ℕ) : Type 0 where
+pub record Fields (d : Dialect) (f : Bytes) (p : Head) (b₀ : Lists) (i : ℕ) (h : Head) (b : Lists) : Type 0 where
   pub form : h.form ≡ form_number start
   pub held : h.held ≡ 0
   pub within : i ≤ length f
   pub from : h.at ≤ i
   pub so_far : i - h.at ≤ run (is_plain d) (drop h.at f)
-  pub wrote : (w : Bool) → Wrote w d f p text₀ ends₀ rows₀ h text ends rows
-
-pub fields-start :
-    {d : Dialect} {f : Bytes} {p : Head} {text ends rows : List ℕ} → p.at ≤ length f → p.form ≡ form_number start → p.held ≡ 0
-    → Fields d f p text ends rows p.at p text ends rows
-fields-start l e₁ e₂ = record { form = e₁; held = e₂; within = l; from = omega arith; so_far = omega arith; wrote = λ w. wrote_none }
+  pub wrote : (w : Bool) → Wrote w d f p b₀ h b
 
 -- the block from i on ends at e
 pub block_at :
@@ -47,10 +46,10 @@ pub block_at :
 block_at t f i e w q l h = let b = block t f i w l h in rw q (b.on, b.marked, b.within, b.small)
 
 module _
-    {d : Dialect} {t : List Bool} {f : Bytes} (base : Base d t f) {p : Head} {text₀ ends₀ rows₀ : List ℕ} {i : ℕ} {h : Head} {text ends rows : List ℕ}
-    (g : Fields d f p text₀ ends₀ rows₀ i h text ends rows)
+    {d : Dialect} {t : List Bool} {f : Bytes} (base : Base d t f) {p : Head} {b₀ : Lists} {i : ℕ} {h : Head} {b : Lists}
+    (g : Fields d f p b₀ i h b)
   where
-    fields-text : (k : ℕ) → k ≤ run (is_plain d) (drop i f) → Fields d f p text₀ ends₀ rows₀ (i + k) h text ends rows
+    fields-text : (k : ℕ) → k ≤ run (is_plain d) (drop i f) → Fields d f p b₀ (i + k) h b
     fields-text k l =
         let from = g.from in
         record {
@@ -71,7 +70,7 @@ module _
           let on = fields-text (count_trailing_zeros 64 w) q.1 in
           (omega arith, record { form = g.form; held = g.held; no_lf = base.no_lf; from = on.from; inside = omega arith; so_far = on.so_far })
 
-      pub no_stop : w ≡ 0 → Fields d f p text₀ ends₀ rows₀ (i + (e - i)) h text ends rows
+      pub no_stop : w ≡ 0 → Fields d f p b₀ (i + (e - i)) h b
       no_stop z = fields-text (e - i) (marked-none t (is_plain d) base.stops f base.bytes e i w k l z)
 
       -- the word from a place behind the mark on
@@ -81,24 +80,28 @@ module _
           let at = marked-on t (is_plain d) base.stops f base.bytes e i w k j in
           rw q at (marked-on t (is_plain d) base.stops f base.bytes e (i + j) (w / 2 ^ j) at (x - (i + j)))
 
-    -- the same, from here on
-    pub here : Fields d f h text ends rows i h text ends rows
-    here = record { form = g.form; held = g.held; within = g.within; from = g.from; so_far = g.so_far; wrote = λ w. wrote_none }
+-- a field found at a mark and written: the walk is behind it, at the start of the next
+module _
+    {d : Dialect} {f : Bytes} {p h next : Head} {b₀ b b' : Lists} {i q : ℕ} {x : Field}
+    (g : Fields d f p b₀ i h b) (plain : Plain d f h q) (found : Found d f h q (Some x)) (put : PutsField h x.content.now x.next x.row b (Some next) b')
+  where
+    place : next.at ≡ x.next
+    place = ap (λ (r : Head). r.at) put.head.1
 
--- one walk behind another
-pub joined :
-    {d : Dialect} {f : Bytes} {p h h' : Head} {text₀ ends₀ rows₀ text ends rows text' ends' rows' : List ℕ} {i i' : ℕ}
-    → Fields d f p text₀ ends₀ rows₀ i h text ends rows → Fields d f h text ends rows i' h' text' ends' rows'
-    → Fields d f p text₀ ends₀ rows₀ i' h' text' ends' rows'
-joined g k = record { form = k.form; held = k.held; within = k.within; from = k.from; so_far = k.so_far; wrote = λ w. wrote_then (g.wrote w) (k.wrote w) }
+    pub field-after : q < next.at
+    field-after = omega (arith, place, found.further plain)
 
--- behind a field: at the start of the next
-pub fields-next :
-    {d : Dialect} {f : Bytes} {p h : Head} {text₀ ends₀ rows₀ text ends rows : List ℕ} {i : ℕ}
-    → ((w : Bool) → Wrote w d f p text₀ ends₀ rows₀ h text ends rows) → h.at ≡ i → i ≤ length f → h.form ≡ form_number start → h.held ≡ 0 → Fields d f p text₀ ends₀ rows₀ i h text ends rows
-fields-next w e l e₁ e₂ = record { form = e₁; held = e₂; within = l; from = omega arith; so_far = omega arith; wrote = w }
+    pub field-within : next.at ≤ length f
+    field-within = let ends = found.ends plain in omega (arith, place, ends.inside)
 
-pub start-again :
-    (y : Bool) (p : Head) (next n : ℕ) (row : Bool) {r : Head} → r ≡ cond y (behind p next row n) p → p.form ≡ form_number start → p.held ≡ 0 → (r.form ≡ form_number start) × (r.held ≡ 0)
-start-again true p next n row e e₁ e₂ = rw e (refl, refl)
-start-again false p next n row e e₁ e₂ = rw e (e₁, e₂)
+    pub fields-next : Fields d f p b₀ next.at next b'
+    fields-next =
+        let ends = found.ends plain in
+        record {
+          form = ap (λ (r : Head). r.form) put.head.1;
+          held = ap (λ (r : Head). r.held) put.head.1;
+          within = field-within;
+          from = omega arith;
+          so_far = omega arith;
+          wrote = λ w. wrote_then (g.wrote w) (field-wrote ends put);
+        }

@@ -8,7 +8,8 @@ use mathlib.Core.Logic.{◌⊎◌, inl, inr}
 use lib.Dec.{eqb}
 use lib.ListN.{length, take, get_or}
 use lib.Seq.{take-append_seam}
-use Rattle.format.specs.declared.Written.{Written, TheVariants.Whole}
+use Rattle.std.specs.Prelude.{Result, Ok}
+use Rattle.format.specs.declared.WriteError.{WriteError}
 use Rattle.format.specs.Table.{Bytes, Table, First}
 use Rattle.format.specs.Dialect.{strict}
 use Rattle.format.specs.House.{file_limit}
@@ -24,6 +25,7 @@ use Rattle.format.proofs.Leniencies.{strict-report}
 use Rattle.format.proofs.Memory.{table-length, memory-back, fields-length}
 use Rattle.format.proofs.Numbers.{one-write-numbers}
 use Rattle.format.proofs.Room.{written-room}
+use Rattle.writer.specs.declared.Mode.{Mode, TheVariants.Plain, TheVariants.Full}
 use Rattle.writer.specs.Form.{form_in}
 use Rattle.writer.specs.Write.{file_in, Forbidden, refused, accepted, FileOutcome, TableOutcome, WriteOutcome}
 use Rattle.writer.proofs.Fields.{form-bound, plain-form, full-form}
@@ -78,7 +80,7 @@ module _ {text : Bytes} {ends rows : List ℕ} {mode : ℕ} {out : Bytes} where
 
   -- any two outcomes that the promise allows are equal, the buffer included
   pub one-outcome :
-      {a b : Written} {x y : Bytes}
+      {a b : Result ℕ WriteError} {x y : Bytes}
       → WriteOutcome text ends rows mode out (writer_numbers a) x → WriteOutcome text ends rows mode out (writer_numbers b) y → (a ≡ b) × (x ≡ y)
   one-outcome {a} {b} o p = let (e, q) = one-numbers o p in (one-write-numbers a b e, q)
 
@@ -127,7 +129,7 @@ file-reads mode t h = go (eqb mode 0)
     go true = let p = plain-reads strict tt t h in rw (strict-report p) at p
     go false = let p = full-reads strict tt t h in rw (strict-report p) at p
 
-module _ {text : Bytes} {ends rows : List ℕ} {mode n : ℕ} {out out' : Bytes} (o : WriteOutcome text ends rows mode out (writer_numbers (Whole n)) out') where
+module _ {text : Bytes} {ends rows : List ℕ} {mode n : ℕ} {out out' : Bytes} (o : WriteOutcome text ends rows mode out (writer_numbers (Ok n)) out') where
   -- whatever the writer accepts reads back, strict, as the same table with nothing reported
   pub reads_back : Accepted 0x2C 0 (take n out') (table_of text ends rows) 0
   reads_back =
@@ -143,12 +145,12 @@ module _ {text : Bytes} {ends rows : List ℕ} {mode n : ℕ} {out out' : Bytes}
 file_room : (mode : ℕ) (t : Table) → CanHold strict t → length (file_in mode t) ≤ 2 * length (text_of t) + 3 * length (flatten t) + length t
 file_room mode t h = go (eqb mode 0)
   where
-    by : (full : Bool) → length (table_by (form_in full) strict t) ≤ 2 * length (text_of t) + 3 * length (flatten t) + length t
-    by full = written-room (form_in full) strict (form-bound full) t h.some_field
+    by : (m : Mode) → length (table_by (form_in m) strict t) ≤ 2 * length (text_of t) + 3 * length (flatten t) + length t
+    by m = written-room (form_in m) strict (form-bound m) t h.some_field
 
     go : (x : Bool) → length (cond x (plain strict t) (full strict t)) ≤ 2 * length (text_of t) + 3 * length (flatten t) + length t
-    go true = rw plain-form at (by false)
-    go false = rw full-form at (by true)
+    go true = rw plain-form at (by Plain)
+    go false = rw full-form at (by Full)
 
 -- two bytes for each of the text, three for each field and one for each record are always room enough, and so is the file limit
 module _ {text : Bytes} {ends rows : List ℕ} {mode : ℕ} {out : Bytes} where

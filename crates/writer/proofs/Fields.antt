@@ -1,66 +1,73 @@
 -- One field in either mode: between quotes, or as it is, in which case there is no quote to double.
-use Prim.Native.Nat.{ℕ, ◌+◌, ◌*◌, ◌≤◌, ◌<◌}
+use Prim.Native.Nat.{ℕ, ◌+◌, ◌*◌, ◌≤◌}
 use native.Mathlib.Omega.{arith}
-use mathlib.Core.Path.{fun_ext, ◌≡◌, refl, sym, ◌∙◌}
+use mathlib.Core.Path.{fun_ext, ◌≡◌, refl, sym, ap, ◌∙◌}
 use mathlib.Core.Bool.{Bool, true, false}
 use mathlib.Core.List.{[], ◌∷◌, ◌++◌}
-use lib.ListN.{length, set, length-append, length-set}
-use lib.Seq.{sets, length-sets}
+use lib.ListN.{length, set, length-append}
+use lib.Seq.{sets}
+use Rattle.std.specs.List.{list_any}
 use Rattle.format.specs.Table.{Bytes, Content}
 use Rattle.format.specs.Dialect.{strict}
-use Rattle.format.specs.WrittenForms.{needs_quotes, doubled, quoted_form, plain_form}
-use Rattle.format.proofs.Filling.{meant, push, pushes}
-use Rattle.format.proofs.Forms.{either-false}
-use Rattle.format.proofs.Length.{ordinary-doubled}
+use Rattle.format.specs.WrittenForms.{is_special, holds_special, doubled, quoted_form, plain_form}
+use Rattle.format.specs.Filling.{over}
+use Rattle.format.proofs.Filling.{begin, push, pushes}
 use Rattle.format.proofs.Rfc.{strict-needs}
 use Rattle.format.proofs.Lines.{quoted-content, plain-content, doubled-length}
+use Rattle.writer.specs.declared.Mode.{Mode, TheVariants.Plain, TheVariants.Full}
 use Rattle.writer.specs.Form.{quotes, form_in}
 
-module _ (full : Bool) (c : Content) {q : Bool} (e : q ≡ quotes full c) where
-  pub form-quoted : q ≡ true → form_in full c ≡ 0x22 ∷ (doubled c ++ (0x22 ∷ []))
+-- plain quotes a content with a special byte
+holds-any : (c : Content) → holds_special strict c ≡ list_any (is_special strict) c
+unfolding holds_special
+holds-any [] = refl
+holds-any (b ∷ c) = rw (holds-any c)
+
+pub plain-quotes : (c : Content) → list_any (is_special strict) c ≡ quotes Plain c
+unfolding quotes
+plain-quotes c = sym (strict-needs c ∙ holds-any c)
+
+pub full-quotes : (c : Content) → true ≡ quotes Full c
+unfolding quotes
+full-quotes c = refl
+
+module _ (m : Mode) (c : Content) {q : Bool} (e : q ≡ quotes m c) where
+  pub form-quoted : q ≡ true → form_in m c ≡ 0x22 ∷ (doubled c ++ (0x22 ∷ []))
   unfolding form_in
   form-quoted h = rw (sym e ∙ h) (quoted-content c)
 
-  pub form-bare : q ≡ false → form_in full c ≡ doubled c
-  unfolding form_in quotes
-  form-bare h =
-      let x : quotes full c ≡ false = sym e ∙ h in
-      rw x (sym (ordinary-doubled strict c (sym (strict-needs c) ∙ (either-false full (needs_quotes strict c) x).1)))
+  pub form-bare : q ≡ false → form_in m c ≡ c
+  unfolding form_in
+  form-bare h = rw (sym e ∙ h)
 
-  pub size-quoted : q ≡ true → length (form_in full c) ≡ length (doubled c) + 2
+  pub size-quoted : q ≡ true → length (form_in m c) ≡ length (doubled c) + 2
   size-quoted h = rw (form-quoted h, length-append) (omega arith)
 
-  pub size-bare : q ≡ false → length (form_in full c) ≡ length (doubled c)
-  size-bare h = rw (form-bare h)
+  pub size-bare : q ≡ false → length (form_in m c) ≡ length c
+  size-bare h = ap length (form-bare h)
 
   -- a quote, the content and a quote, stored one after the other
   pub put-quoted :
-      q ≡ true → (out : Bytes) (at : ℕ) → at + length (form_in full c) ≤ length out
-      → {r : ℕ} {mid : Bytes} → r ≡ at + 1 + length (doubled c) → mid ≡ sets (set out at 0x22) (at + 1) (doubled c)
-      → (r + 1 ≡ at + length (form_in full c)) × (set mid r 0x22 ≡ sets out at (form_in full c))
-  put-quoted h out at k p m =
+      q ≡ true → (out : Bytes) → length (form_in m c) ≤ length out
+      → {r : ℕ} {mid : Bytes} → r ≡ length (doubled c) → mid ≡ sets (set out 0 0x22) 1 (doubled c)
+      → (1 + r + 1 ≡ length (form_in m c)) × (set mid (1 + r) 0x22 ≡ over (form_in m c) out)
+  put-quoted h out k p e =
       let w : Bytes = 0x22 ∷ (doubled c ++ (0x22 ∷ [])) in
-      let i : at + length w ≤ length out = rw (form-quoted h) at k in
-      let f = push {rest = []} _ (pushes (doubled c) _ (push _ (meant out at w i))) in
-      (omega (arith, p, size-quoted h), rw (m, p, form-quoted h) f.fills)
+      let f = push {rest = []} _ (pushes (doubled c) _ (push _ (begin w (rw (form-quoted h) at k)))) in
+      (omega (arith, p, size-quoted h), rw (e, p, form-quoted h) f.fills)
 
--- where the last quote goes there is room
-pub last-quote : (out : Bytes) (at : ℕ) (d : Bytes) → at + length d + 2 ≤ length out
-    → {r : ℕ} {mid : Bytes} → r ≡ at + 1 + length d → mid ≡ sets (set out at 0x22) (at + 1) d → r < length mid
-last-quote out at d h p m = rw (m, length-sets, length-set) (omega (arith, p))
-
-pub form-bound : (full : Bool) (c : Content) → length (form_in full c) ≤ 2 * length c + 2
-form-bound full c = go (quotes full c) refl
+pub form-bound : (m : Mode) (c : Content) → length (form_in m c) ≤ 2 * length c + 2
+form-bound m c = go (quotes m c) refl
   where
-    go : (q : Bool) → q ≡ quotes full c → length (form_in full c) ≤ 2 * length c + 2
-    go true e = omega (arith, size-quoted full c e refl, doubled-length c)
-    go false e = omega (arith, size-bare full c e refl, doubled-length c)
+    go : (q : Bool) → q ≡ quotes m c → length (form_in m c) ≤ 2 * length c + 2
+    go true e = omega (arith, size-quoted m c e refl, doubled-length c)
+    go false e = omega (arith, size-bare m c e refl)
 
 -- plain is the form of each field that needs it quoted, full that of every field quoted
-pub plain-form : form_in false ≡ plain_form strict
+pub plain-form : form_in Plain ≡ plain_form strict
 unfolding form_in quotes
 plain-form = fun_ext (λ c. sym (plain-content strict c))
 
-pub full-form : form_in true ≡ quoted_form
+pub full-form : form_in Full ≡ quoted_form
 unfolding form_in quotes
 full-form = refl

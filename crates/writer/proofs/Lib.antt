@@ -1,5 +1,7 @@
 pub mod Calls
 pub mod Content
 pub mod Fields
+pub mod Lines
 pub mod Outcomes
-pub mod Walking
+pub mod Parts
+pub mod Sizes

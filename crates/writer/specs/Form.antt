@@ -1,12 +1,28 @@
--- The form of a field in either mode: quoted, or its content as it is.
-use Rattle.std.specs.Prelude.{Bool, cond, ◌||◌}
+-- The modes, and the form of a field in either: quoted, or its content as it is.
+use Rattle.std.specs.Prelude.{ℕ, ◌<◌, ◌≡◌, Bool, true, cond, List, [], ◌∷◌, ◌++◌, Result, Ok, Err}
+use Rattle.format.specs.declared.WriteError.{WriteError, TheVariants.UnknownMode}
 use Rattle.format.specs.Table.{Bytes, Content}
-use Rattle.format.specs.Dialect.{strict}
-use Rattle.format.specs.WrittenForms.{needs_quotes, quoted_form}
+use Rattle.format.specs.Dialect.{Dialect, strict}
+use Rattle.format.specs.WrittenForms.{needs_quotes, quoted_form, record_by}
+use Rattle.writer.specs.declared.Mode.{Mode, TheVariants.Plain, TheVariants.Full}
+
+-- the number of a mode; a byte names the mode that has it, or is refused
+abbrev pub mode_number : Mode → ℕ
+mode_number Plain = 0
+mode_number Full = 1
+
+abbrev pub Names : ℕ → Result Mode WriteError → Type 0
+Names mode (Ok m) = mode ≡ mode_number m
+Names mode (Err e) = (1 < mode) × (e ≡ UnknownMode)
 
 -- full quotes every field, plain one that needs it
-unfoldable pub quotes : Bool → Content → Bool
-quotes full c = full || needs_quotes strict c
+unfoldable pub quotes : Mode → Content → Bool
+quotes Plain c = needs_quotes strict c
+quotes Full c = true
 
-unfoldable pub form_in : Bool → Content → Bytes
-form_in full c = cond (quotes full c) (quoted_form c) c
+unfoldable pub form_in : Mode → Content → Bytes
+form_in m c = cond (quotes m c) (quoted_form c) c
+
+-- a record with its line break
+abbrev pub line_by : (Content → Bytes) → Dialect → List Content → Bytes
+line_by form d cs = record_by form d cs ++ (0x0D ∷ 0x0A ∷ [])

@@ -5,230 +5,196 @@
 
 #![tactic(auto)]
 
-ghost use Rattle.std.specs.Prelude.{◌≡◌, ◌+◌, ◌≤◌, length, get_or};
-ghost use Rattle.std.proofs.Math.Seq.{slice};
-ghost use Rattle.std.proofs.lemmas.List.Edits.{sets};
+ghost use Rattle.std.specs.Prelude.{ℕ, ◌≡◌, ◌+◌, ◌≤◌, ◌<◌, ◌↔◌, length, get_or, IsTrue, MatchResult};
 ghost use Rattle.format.specs.Dialect.{strict};
 ghost use Rattle.format.specs.Answer.{writer_numbers};
-ghost use Rattle.format.specs.Memory.{largest32, WellFormed, table_of};
 ghost use Rattle.format.specs.WrittenForms.{is_special, doubled, table_by, CanHold};
 ghost use Rattle.format.specs.Filling.{over};
+ghost use Rattle.format.specs.Table.{Bytes};
 ghost use Rattle.tables.specs.Seek.{Sought, Strays, paired};
-ghost use Rattle.writer.specs.Form.{quotes, form_in};
-ghost use Rattle.writer.specs.Write.{Forbidden, WriteOutcome};
+ghost use Rattle.tables.specs.Fields.{contents};
+ghost use Rattle.tables.specs.Records.{held};
+ghost use Rattle.writer.specs.Form.{quotes, form_in, line_by, Names};
+ghost use Rattle.writer.specs.Write.{Forbidden, TableOutcome, WriteOutcome};
 
-use format::{FieldNumber, RecordNumber, TextIndex, Written};
+use format::{FieldNumber, RecordNumber, TextIndex, WriteError};
+use steps::Class;
+use tables::fields::Fields;
+use tables::{Formed, Table};
 
-// Writes a table as a strict file, plain in mode 0 and full in mode 1: the file from the front of out,
-// what stands behind it left alone; or the refusal, and nothing written.
-pub fn write(text: &[u8], ends: &[u32], rows: &[u32], mode: u8, out: &mut [u8]) -> Written
-    ensures { WriteOutcome text.now ends.now rows.now mode out.old (writer_numbers result) out.new }
-{
-    if 1 < mode {
-        return Written::UnknownMode;
-    }
-    if !tables::is_well_formed(text, ends, rows) {
-        return Written::Malformed;
-    }
-    let forbidden = first_forbidden(text);
-    if forbidden < text.len() {
-        return Written::Forbidden(TextIndex(forbidden as u32));
-    }
-    let long = tables::first_outside(ends, 0, format::CONTENT_LIMIT);
-    if long < ends.len() {
-        return Written::LongContent(FieldNumber(long as u32));
-    }
-    let uneven = first_uneven(rows);
-    if uneven < rows.len() {
-        return Written::Uneven(RecordNumber(uneven as u32));
-    }
-    write_holdable(text, ends, rows, mode, out)
+// Which fields are quoted: those that need it, or all.
+#[derive(Clone, Copy)]
+enum Mode {
+    Plain,
+    Full,
 }
 
-// Writes a table that strict can hold, if it is within the limit and there is room.
-fn write_holdable(text: &[u8], ends: &[u32], rows: &[u32], mode: u8, out: &mut [u8]) -> Written
-    requires { (mode ≤ 1) × WellFormed text.now ends.now rows.now × CanHold strict (table_of text.now ends.now rows.now) }
-    ensures { WriteOutcome text.now ends.now rows.now mode out.old (writer_numbers result) out.new }
-{
-    let full = mode == 1;
-    let n = size(text, ends, rows, full);
-    if (format::FILE_LIMIT as u64) < n {
-        return Written::LongFile;
-    }
-    if (out.len() as u64) < n {
-        return Written::NoRoom;
-    }
-    put(text, ends, rows, full, out);
-    Written::Whole(n as u32)
-}
+impl TryFrom<u8> for Mode {
+    type Error = WriteError;
 
-// The first byte that strict cannot hold, or the length.
-fn first_forbidden(text: &[u8]) -> usize
-    ensures { Sought Forbidden text.now result }
-{
-    let mut i = 0;
-    while i < text.len() {
-        let here = i;
-        i += 1;
-        if steps::class_of(b',', 0, text[here]) == steps::FORBIDDEN {
-            return here;
+    ghost try_from_gives = { Names };
+
+    fn try_from(mode: u8) -> Result<Self, WriteError> {
+        match mode {
+            0 => Ok(Mode::Plain),
+            1 => Ok(Mode::Full),
+            _ => Err(WriteError::UnknownMode),
         }
     }
-    i
 }
 
-// The first record with another number of fields than record 0, or the number of records.
-fn first_uneven(rows: &[u32]) -> usize
+// Writes a table as a strict file, plain in mode 0 and full in mode 1: the file from the front of out,
+// what stands behind it left alone, and its length; or the refusal, and nothing written.
+pub fn write(table: &Table<'_>, mode: u8, out: &mut [u8]) -> Result<u32, WriteError>
+    ensures { WriteOutcome table.now.text.now table.now.ends.now table.now.rows.now mode out.old
+        (writer_numbers result) out.new }
+{
+    let mode = Mode::try_from(mode)?;
+    let formed = table.formed().ok_or(WriteError::Malformed)?;
+    judge(&formed)?;
+    let length = size(&formed, mode);
+    if (format::FILE_LIMIT as usize) < length {
+        return Err(WriteError::LongFile);
+    }
+    if out.len() < length {
+        return Err(WriteError::NoRoom);
+    }
+    put(&formed, mode, out);
+    Ok(length as u32)
+}
+
+// Whether strict can hold a table; or the lowest byte, field or record that it cannot.
+fn judge(formed: &Formed<'_>) -> Result<(), WriteError>
+    ensures { let text = formed.now.table.text.now in MatchResult result
+        (λ _. CanHold strict (held formed.now))
+        (λ e. (file out : Bytes) → TableOutcome text (held formed.now) file out (writer_numbers (Err e)) out) }
+{
+    let Table { text, ends, rows } = formed.table;
+    if let Some(i) = first_forbidden(text) {
+        return Err(WriteError::Forbidden(TextIndex(i as u32)));
+    }
+    if let Some(k) = tables::first_outside(ends, 0, format::CONTENT_LIMIT) {
+        return Err(WriteError::LongContent(FieldNumber(k as u32)));
+    }
+    if let Some(r) = first_uneven(rows) {
+        return Err(WriteError::Uneven(RecordNumber(r as u32)));
+    }
+    Ok(())
+}
+
+// The first byte that strict cannot hold, if there is one.
+fn first_forbidden(text: &[u8]) -> Option<usize>
+    ensures { Sought Forbidden text.now result }
+{
+    text.iter().position(|b| is_forbidden(*b))
+}
+
+// Whether a byte is one that strict cannot hold.
+fn is_forbidden(b: u8) -> bool
+    ensures { IsTrue result ↔ Forbidden b }
+{
+    matches!(steps::class_of(format::STRICT, b), Class::Forbidden)
+}
+
+// The first record with another number of fields than record 0, if there is one.
+fn first_uneven(rows: &[u32]) -> Option<usize>
     ensures { Sought (Strays (get_or rows.now 0 0) (get_or rows.now 0 0)) (paired 0 rows.now) result }
 {
-    if rows.len() == 0 {
-        return 0;
-    }
-    let width = rows[0];
+    let width = *rows.first()?;
     tables::first_outside(rows, width, width)
 }
 
-// The length of the file.
-fn size(text: &[u8], ends: &[u32], rows: &[u32], full: bool) -> u64
-    requires { WellFormed text.now ends.now rows.now }
-    ensures { result ≡ length (table_by (form_in full) strict (table_of text.now ends.now rows.now)) }
+// The length of the file: its text with each quote doubled, two quotes about each field that is quoted,
+// a comma or a CR behind each field, and an LF behind each record.
+fn size(formed: &Formed<'_>, mode: Mode) -> usize
+    ensures { result ≡ length (table_by (form_in mode) strict (held formed.now)) }
 {
-    let mut k = 0;
-    let mut r = 0;
-    let mut from = 0;
-    let mut n: u64 = 0;
-    while k < ends.len() {
-        let end = ends[k] as usize;
-        n += size_field(text, from, end, full);
-        from = end;
-        k += 1;
-        if rows[r] as usize == k {
-            n += 2;
-            r += 1;
-        } else {
-            n += 1;
-        }
-    }
-    n
-}
-
-// The length of a field.
-fn size_field(text: &[u8], from: usize, end: usize, full: bool) -> u64
-    requires { (from ≤ end) × (end ≤ length text.now) × (end ≤ largest32) }
-    ensures { result ≡ length (form_in full (slice from end text.now)) }
-{
-    let n = size_inside(text, from, end);
-    if is_quoted(text, from, end, full) {
-        n + 2
-    } else {
-        n
-    }
-}
-
-// The length of a content with each quote doubled.
-fn size_inside(text: &[u8], from: usize, end: usize) -> u64
-    requires { (from ≤ end) × (end ≤ length text.now) }
-    ensures { result ≡ length (doubled (slice from end text.now)) }
-{
-    let mut n: u64 = 0;
-    let mut i = from;
-    while i < end {
-        let b = text[i];
-        i += 1;
-        n += 1;
-        if b == b'"' {
-            n += 1;
-        }
-    }
-    n
+    let Table { text, ends, rows } = formed.table;
+    let doubled = text.iter().filter(|b| **b == b'"').count();
+    let quoted = formed
+        .fields()
+        .filter(|field| is_quoted(field, mode))
+        .count();
+    text.len() + doubled + 2 * quoted + ends.len() + rows.len()
 }
 
 // Whether a field is quoted.
-fn is_quoted(text: &[u8], from: usize, end: usize, full: bool) -> bool
-    requires { (from ≤ end) × (end ≤ length text.now) }
-    ensures { result ≡ quotes full (slice from end text.now) }
+fn is_quoted(field: &[u8], mode: Mode) -> bool
+    ensures { result ≡ quotes mode field.now }
 {
-    if full {
-        return true;
+    match mode {
+        Mode::Plain => field.iter().any(|b| is_special(*b)),
+        Mode::Full => true,
     }
-    let mut i = from;
-    while i < end {
-        if is_special(text[i]) {
-            return true;
-        }
-        i += 1;
-    }
-    false
 }
 
 // Whether a byte is special: a comma, a quote, CR or LF.
 fn is_special(b: u8) -> bool
     ensures { result ≡ is_special strict b }
 {
-    let class = steps::class_of(b',', 0, b);
-    steps::DELIMITER <= class && class <= steps::LF
+    matches!(b, b',' | b'"' | b'\r' | b'\n')
 }
 
 // Writes the file.
-fn put(text: &[u8], ends: &[u32], rows: &[u32], full: bool, out: &mut [u8])
-    requires { WellFormed text.now ends.now rows.now × (length (table_by (form_in full) strict (table_of text.now ends.now rows.now)) ≤ length out.old) }
-    ensures { out.new ≡ over (table_by (form_in full) strict (table_of text.now ends.now rows.now)) out.old }
+fn put(formed: &Formed<'_>, mode: Mode, out: &mut [u8])
+    requires { length (table_by (form_in mode) strict (held formed.now)) ≤ length out.old }
+    ensures { out.new ≡ over (table_by (form_in mode) strict (held formed.now)) out.old }
 {
-    let mut k = 0;
-    let mut r = 0;
-    let mut from = 0;
     let mut at = 0;
-    let count = ends.len();
-    while k < count {
-        let end = ends[k] as usize;
-        at = put_field(text, from, end, full, out, at);
-        from = end;
-        k += 1;
-        if rows[r] as usize == k {
-            out[at] = 0x0D;
-            at += 1;
-            out[at] = 0x0A;
-            at += 1;
-            r += 1;
-        } else {
-            out[at] = b',';
-            at += 1;
-        }
+    for record in formed.records() {
+        at += put_record(record, mode, &mut out[at..]);
     }
 }
 
-// Writes a field from a place on, and says where it ends.
-fn put_field(text: &[u8], from: usize, end: usize, full: bool, out: &mut [u8], at: usize) -> usize
-    requires { (from ≤ end) × (end ≤ length text.now) × (at + length (form_in full (slice from end text.now)) ≤ length out.old) }
-    ensures value { result ≡ at + length (form_in full (slice from end text.now)) }
-    ensures out_after { out.new ≡ sets out.old at (form_in full (slice from end text.now)) }
+// Writes a record with its line break, and says how long they are.
+fn put_record(fields: Fields<'_>, mode: Mode, out: &mut [u8]) -> usize
+    requires some_field { 1 ≤ length (contents fields) }
+    requires room { length (line_by (form_in mode) strict (contents fields)) ≤ length out.old }
+    ensures value { result ≡ length (line_by (form_in mode) strict (contents fields.entry)) }
+    ensures out_after { out.new ≡ over (line_by (form_in mode) strict (contents fields.entry)) out.old }
 {
-    if !is_quoted(text, from, end, full) {
-        return put_inside(text, from, end, out, at);
+    let mut at = 0;
+    for field in fields {
+        at += put_field(field, mode, &mut out[at..]);
+        out[at] = b',';
+        at += 1;
     }
-    out[at] = b'"';
-    let behind = put_inside(text, from, end, out, at + 1);
+    // The line break begins where the last comma stands.
+    out[at - 1] = b'\r';
+    out[at] = b'\n';
+    at + 1
+}
+
+// Writes a field, and says how long it is.
+fn put_field(field: &[u8], mode: Mode, out: &mut [u8]) -> usize
+    requires { length (form_in mode field.now) ≤ length out.old }
+    ensures value { result ≡ length (form_in mode field.now) }
+    ensures out_after { out.new ≡ over (form_in mode field.now) out.old }
+{
+    if !is_quoted(field, mode) {
+        out[..field.len()].copy_from_slice(field);
+        return field.len();
+    }
+    out[0] = b'"';
+    let behind = 1 + put_inside(field, &mut out[1..]);
     out[behind] = b'"';
     behind + 1
 }
 
-// Writes a content with each quote doubled from a place on, and says where it ends.
-fn put_inside(text: &[u8], from: usize, end: usize, out: &mut [u8], at: usize) -> usize
-    requires { (from ≤ end) × (end ≤ length text.now) × (at + length (doubled (slice from end text.now)) ≤ length out.old) }
-    ensures value { result ≡ at + length (doubled (slice from end text.now)) }
-    ensures out_after { out.new ≡ sets out.old at (doubled (slice from end text.now)) }
+// Writes a content with each quote doubled, and says how long that is.
+fn put_inside(content: &[u8], out: &mut [u8]) -> usize
+    requires { length (doubled content.now) ≤ length out.old }
+    ensures value { result ≡ length (doubled content.now) }
+    ensures out_after { out.new ≡ over (doubled content.now) out.old }
 {
-    let mut o = at;
-    let mut i = from;
-    while i < end {
-        let b = text[i];
-        i += 1;
-        out[o] = b;
-        o += 1;
-        if b == b'"' {
-            out[o] = b'"';
-            o += 1;
+    let mut at = 0;
+    for b in content {
+        out[at] = *b;
+        at += 1;
+        if *b == b'"' {
+            out[at] = b'"';
+            at += 1;
         }
     }
-    o
+    at
 }

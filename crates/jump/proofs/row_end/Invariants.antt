@@ -5,7 +5,7 @@ use Rattle.jump.specs.Pass.{RowEnd}
 use Rattle.jump.proofs.row_end.Given as goal
 
 abbrev pub invariant-loop-at : goal.invariant-loop-at
-invariant-loop-at l = RowEnd l.marks l.file l.from l.at
+invariant-loop-at l = RowEnd l.rows.marks l.file l.from l.at
 
 abbrev pub decreases-loop-at : goal.decreases-loop-at
 decreases-loop-at l = length l.file - l.at

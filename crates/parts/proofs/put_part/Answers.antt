@@ -1,41 +1,48 @@
 -- `parts::put_part` meets its contract.
-use native.Mathlib.Omega.{arith}
-use mathlib.Core.Bool.{false}
-use Rattle.parts.proofs.Passing.{enough, text-put, ends-raisable, rows-raisable, ends-raised, rows-raised}
+use borrow.Author.Rules.{rules}
+use Rattle.parts.proofs.Passing.{text-put, ends-within, rows-within, ends-small, rows-small, ends-raised, rows-raised}
 use Rattle.parts.proofs.put_part.Goals as goal
 
-pub overflow_add-p : goal.overflow_add-p
-overflow_add-p c = omega (arith, c.requires.ample.roomy.small)
+pub slice_bounds-raise-end : goal.slice_bounds-raise-end
+slice_bounds-raise-end c =
+    let w = c.walked-q.ensures in
+    let r = c.requires in
+    let i = ends-within _ _ r.taken_in_bounds r.ample _ c.dialect.ensures w.wrote w.to_the_end in
+    search rules
 
-pub overflow_cast-p : goal.overflow_cast-p
-overflow_cast-p c = let m = c.requires.ample in omega (arith, m.roomy.text_count, m.roomy.small)
-
-pub overflow_sub-p : goal.overflow_sub-p
-overflow_sub-p c = c.requires.ample.roomy.text_count
+pub slice_bounds-raise-end-2 : goal.slice_bounds-raise-end-2
+slice_bounds-raise-end-2 c =
+    let w = c.walked-q.ensures in
+    let r = c.requires in
+    let i = rows-within _ _ r.taken_in_bounds r.ample _ c.dialect.ensures w.wrote w.to_the_end in
+    search rules
 
 pub raise-requires : goal.raise-requires
 raise-requires c =
     let w = c.walked-q.ensures in
-    ends-raisable c.requires.taken_le_to c.requires.ample _ (w.wrote false) (w.file_len_bound false (enough c.requires.taken_le_to c.requires.ample _))
-
-pub overflow_cast-p-2 : goal.overflow_cast-p-2
-overflow_cast-p-2 c = let m = c.requires.ample in omega (arith, m.roomy.field_count, m.roomy.few)
-
-pub overflow_sub-p-2 : goal.overflow_sub-p-2
-overflow_sub-p-2 c = c.requires.ample.roomy.field_count
+    let r = c.requires in
+    ends-small _ _ r.taken_in_bounds r.ample _ c.dialect.ensures w.wrote w.to_the_end
 
 pub raise-requires-2 : goal.raise-requires-2
 raise-requires-2 c =
     let w = c.walked-q.ensures in
-    rows-raisable c.requires.taken_le_to c.requires.ample _ (w.wrote false) (w.file_len_bound false (enough c.requires.taken_le_to c.requires.ample _))
+    let r = c.requires in
+    rows-small _ _ r.taken_in_bounds r.ample _ c.dialect.ensures w.wrote w.to_the_end
 
-pub returns : goal.returns
-returns c =
+pub returns-clause-text_put : goal.returns-clause-text_put
+returns-clause-text_put c =
     let w = c.walked-q.ensures in
-    let g = w.wrote false in
-    let l = w.file_len_bound false (enough c.requires.taken_le_to c.requires.ample _) in
-    record {
-      put = text-put c.requires.taken_le_to c.requires.ample _ g l;
-      put_2 = ends-raised c.requires.taken_le_to c.requires.ample _ g l c.raise.ensures;
-      put_3 = rows-raised c.requires.taken_le_to c.requires.ample _ g l c.raise-2.ensures;
-    }
+    let r = c.requires in
+    text-put _ _ r.taken_in_bounds r.ample _ c.dialect.ensures w.wrote w.to_the_end
+
+pub returns-clause-ends_put : goal.returns-clause-ends_put
+returns-clause-ends_put c =
+    let w = c.walked-q.ensures in
+    let r = c.requires in
+    ends-raised _ _ r.taken_in_bounds r.ample _ c.dialect.ensures w.wrote w.to_the_end c.raise.ensures
+
+pub returns-clause-rows_put : goal.returns-clause-rows_put
+returns-clause-rows_put c =
+    let w = c.walked-q.ensures in
+    let r = c.requires in
+    rows-raised _ _ r.taken_in_bounds r.ample _ c.dialect.ensures w.wrote w.to_the_end c.raise-2.ensures

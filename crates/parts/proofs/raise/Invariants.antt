@@ -1,10 +1,6 @@
--- `parts::raise` meets its contract. The loop's invariant: with the rest made greater the entries become what they are to become.
-use Prim.Native.Nat.{◌-◌}
-use Rattle.parts.proofs.Raised.{Raising}
+-- `parts::raise` meets its contract.
+use Rattle.std.proofs.Common.{◌≡◌, ◌+◌, ◌++◌, map, take, drop}
 use Rattle.parts.proofs.raise.Given as goal
 
-abbrev pub invariant-loop-i : goal.invariant-loop-i
-invariant-loop-i l = Raising l.n l.from l.to l.initial.entries l.entries l.i
-
-abbrev pub decreases-loop-i : goal.decreases-loop-i
-decreases-loop-i l = l.to - l.i
+abbrev pub invariant-loop-entry : goal.invariant-loop-entry
+invariant-loop-entry l = l.entries ≡ map (λ x. x + l.n) (take l.entry-index l.initial.entries) ++ drop l.entry-index l.initial.entries

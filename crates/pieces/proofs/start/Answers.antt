@@ -4,4 +4,4 @@ use Rattle.state.proofs.Parts.{started-is}
 use Rattle.pieces.proofs.start.Goals as goal
 
 pub returns : goal.returns
-returns c = so-started (rw (c.nowhere-anchor.ensures, c.first_place-here.ensures, started-is))
+returns c = so-started (rw (c.nowhere.ensures, c.first_place-here.ensures, started-is))

@@ -1,25 +1,16 @@
--- `runs::inner_run` meets its contract. The loop's invariant: what is passed and the run that is left come to the whole run.
-use Prim.Native.Nat.{◌-◌}
+-- `runs::inner_run` meets its contract.
+use Rattle.std.proofs.Common.{◌≡◌, drop, rules, tests}
 use native.Mathlib.Omega.{arith}
-use mathlib.Core.Path.{sym, ◌∙◌}
-use lib.ListN.{drop, length-drop}
-use Rattle.runs.proofs.Runs.{run-le, passed-part, passed-more, passed-stops, passed-end}
-use Rattle.runs.specs.Runs.{is_inner}
+use Rattle.std.proofs.lemmas.Iterator.{YieldsList-from_slice}
+use Rattle.runs.specs.Runs.{run, is_inner}
+use Rattle.runs.proofs.Blocks.{counted-front}
+use Rattle.runs.proofs.Runs.{front-part}
 use Rattle.runs.proofs.inner_run.Goals as goal
 
-pub overflow_add-i : goal.overflow_add-i
-overflow_add-i c =
-    let a = c.args in
-    omega (arith, c.inner_blocks.ensures, run-le is_inner (drop a.from a.s.now), length-drop a.from a.s.now)
-
-pub loop-i-init : goal.loop-i-init
-loop-i-init c = passed-part _ _ _ _ _ (omega arith, omega arith) (omega (arith, c.inner_blocks.ensures))
-
-pub returns-then-not-is_inner : goal.returns-then-not-is_inner
-returns-then-not-is_inner c = passed-stops _ _ _ _ c.loop-i.invariant (omega arith) (sym c.is_inner.ensures ∙ c.if-not-is_inner.true)
-
-pub loop-i-preserved : goal.loop-i-preserved
-loop-i-preserved c = passed-more _ _ _ _ c.loop-i.invariant (omega arith) (sym c.is_inner.ensures ∙ c.if-not-is_inner.false)
-
 pub returns : goal.returns
-returns c = passed-end _ _ _ _ c.loop-i.invariant c.loop-i-test.false
+unfolding run
+returns c =
+    let rest = drop c.args.from c.args.s.now in
+    let passed = c.inner_blocks-passed.result in
+    let e : c.count.result ≡ run is_inner (drop passed rest) = counted-front _ is_inner _ c.count.ensures.ran (YieldsList-from_slice (drop passed rest) cc) c.take_while.ensures.closure c.take_while.ensures.done (λ x b q k. search (rules, tests)) in
+    omega (arith, e, front-part is_inner rest passed (omega arith))

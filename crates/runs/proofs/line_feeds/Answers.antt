@@ -1,17 +1,12 @@
--- `runs::line_feeds` meets its contract. The loop's invariant: the line feeds that are passed and those that are left are all.
-use Prim.Native.Nat.{◌-◌}
+-- `runs::line_feeds`: each byte adds itself to those passed.
 use native.Mathlib.Omega.{arith}
 use Rattle.runs.proofs.Lines.{feeds-more, feeds-none}
 use Rattle.runs.proofs.line_feeds.Goals as goal
 
-pub loop-k-preserved : goal.loop-k-preserved
-loop-k-preserved c =
-    let l = c.loop-k in
-    let a = c.args in
-    let more = feeds-more a.s.now l.k (omega arith) in
-    (omega arith, omega (arith, more))
+pub loop-b-preserved : goal.loop-b-preserved
+loop-b-preserved c =
+    let more = feeds-more c.bytes_from-b-items.result.now c.loop-b.b-index c.from-feeds.result c.loop-b-test.true c.from-feeds.ensures in
+    (omega (arith, more.0), omega (arith, more.1))
 
 pub returns : goal.returns
-returns c =
-    let a = c.args in
-    omega (arith, feeds-none a.s.now c.loop-k.k (omega arith))
+returns c = omega (arith, feeds-none c.bytes_from-b-items.result.now c.loop-b.b-index (omega arith))

@@ -1,21 +1,31 @@
 -- `stream::flowed` meets its contract. The loop's invariant: what is to come from the start on is what has come, and then the rest.
-use Prim.Native.Nat.{◌-◌}
 use native.Mathlib.Omega.{arith}
+use mathlib.Core.Path.{refl}
+use Rattle.fill.proofs.Grown.{same-then}
 use Rattle.taking.proofs.Growing.{grew_none}
-use Rattle.stream.proofs.Whole.{turn-ended, turn-taken, turn-less, turn_last}
+use Rattle.stream.proofs.Whole.{turn-ended, turn-taken, turn_last}
 use Rattle.stream.proofs.flowed.Goals as goal
 
-pub loop-h-init : goal.loop-h-init
-loop-h-init c = grew_none (record { taken_in = omega arith; text_in = omega arith; ends_in = omega arith; rows_in = omega arith })
+pub loop-flow-init : goal.loop-flow-init
+loop-flow-init c =
+    record {
+      same = record { same_text = refl; same_ends = refl; same_rows = refl };
+      grew = rw c.new-flow.ensures (grew_none (record { taken_in = omega arith; text_in = omega arith; ends_in = omega arith; rows_in = omega arith }));
+    }
 
-pub returns-then-h-at : goal.returns-then-h-at
-returns-then-h-at c = turn-ended c.loop-h.invariant c.passed-h.ensures.grew c.take_byte-h.ensures.took c.if-h-at.true
+pub returns-then-flow-before-clause-grew : goal.returns-then-flow-before-clause-grew
+returns-then-flow-before-clause-grew c =
+    let part = c.passed-part.ensures in
+    rw c.new-flow.ensures at (turn-ended c.loop-flow.invariant.grew _ part.grew part.unwritten c.unwrap_or-before.ensures c.take_byte-flow.ensures.took c.if-flow-before.true)
 
-pub loop-h-smaller : goal.loop-h-smaller
-loop-h-smaller c = turn-less c.loop-h.invariant c.passed-h.ensures.grew c.take_byte-h.ensures.took c.if-h-at.false
+pub loop-flow-preserved : goal.loop-flow-preserved
+loop-flow-preserved c =
+    let part = c.passed-part.ensures in
+    let v = c.loop-flow.invariant in
+    record {
+      same = same-then v.same (same-then part.same c.take_byte-flow.ensures.same);
+      grew = turn-taken v.grew _ part.grew part.unwritten c.unwrap_or-before.ensures c.take_byte-flow.ensures.took c.if-flow-before.false;
+    }
 
-pub loop-h-preserved : goal.loop-h-preserved
-loop-h-preserved c = turn-taken c.loop-h.invariant c.passed-h.ensures.grew c.take_byte-h.ensures.took c.if-h-at.false
-
-pub returns : goal.returns
-returns c = turn_last c.loop-h.invariant c.take_byte.ensures.took c.loop-h-test.false
+pub returns-clause-grew : goal.returns-clause-grew
+returns-clause-grew c = rw c.new-flow.ensures at (turn_last c.loop-flow.invariant.grew c.take_byte.ensures.took c.loop-flow-test.false)

@@ -3,4 +3,4 @@ use Rattle.output.proofs.Closing.{start-onward}
 use Rattle.stream.proofs.start.Goals as goal
 
 pub returns : goal.returns
-returns c = start-onward c.start-check.ensures.result c.onward_from.ensures
+returns c = start-onward c.start.ensures.result c.onward.ensures

@@ -1,76 +1,75 @@
 -- `stride::take_byte` meets its contract. One act after the other.
-use Prim.Native.Nat.{ℕ, ◌+◌}
+use Prim.Native.Nat.{ℕ}
 use mathlib.Core.Path.{◌≡◌, refl, sym, ◌∙◌, ap}
 use mathlib.Core.Bool.{true, false}
-use native.Mathlib.Omega.{arith}
-use lib.Dec.{ltb}
 use lib.ListN.{get_or}
-use borrow.Author.Tests.{lt-ltb}
-use Rattle.format.specs.Dialect.{lf, names, dialect, class_of}
+use Rattle.format.specs.Table.{Bytes}
+use Rattle.format.specs.Dialect.{lf, names, class_of}
+use Rattle.format.specs.declared.Dialect.{Dialect}
+use Rattle.format.specs.Meant.{dialect_of}
 use Rattle.steps.specs.declared.Stepped.{Stepped}
 use Rattle.steps.specs.Numbers.{form_of, coded, act_of}
-use Rattle.steps.proofs.Acts.{act-back}
-use Rattle.format.specs.Table.{Bytes}
 use Rattle.steps.specs.Steps.{step_of}
+use Rattle.steps.proofs.Acts.{act-back}
 use Rattle.fill.specs.declared.Head.{Head}
-use Rattle.fill.proofs.Grown.{wrote_none}
-use Rattle.stride.proofs.Walk.{Does, goes, ends-here, end-put, end-moves, end-fits, put-wrote, put-fits, hold-wrote, stops}
+use Rattle.stride.proofs.Walk.{Does, passes, drops, holds, puts, put-fits, ends-here, end-walks, end-lacks, stops}
 use Rattle.stride.proofs.take_byte.Goals as goal
 
 -- what the code's answer says of the byte
 does :
-    (b l : ℕ) (f : Bytes) (p : Head) {r s : Stepped} → r ≡ coded (step_of (names l lf) (form_of p.form) (class_of (dialect b l) (get_or f p.at 0)))
-    → r ≡ s → Does (dialect b l) f p (act_of s)
-does b l f p h e = sym (act-back _ _ _) ∙ ap act_of (sym h ∙ e)
+    (x : Dialect) (f : Bytes) (p : Head) {b : ℕ} {s : Stepped} → ((y : ℕ) → b ≡ get_or f p.at y)
+    → s ≡ coded (step_of (names x.leniencies lf) (form_of p.form) (class_of (dialect_of x) b)) → Does (dialect_of x) f p (act_of s)
+does x f p e h = rw (← e 0) (sym (act-back _ _ _) ∙ ap act_of (sym h))
 
-pub returns-then-file-at : goal.returns-then-file-at
-returns-then-file-at c = record { wrote = λ w. wrote_none; at_lt_at = λ w m n. absurd (omega (arith, c.if-file-at.true)) }
+pub returns-in-Refuse-clause-wrote : goal.returns-in-Refuse-clause-wrote
+returns-in-Refuse-clause-wrote c =
+    let read = c.in_ok-b.ensures.lookup.3 in
+    λ w. stops _ _ _ read.0 (does c.args.dialect c.args.file.now c.args.p read.1 c.in-Refuse.ensures)
 
-pub returns-in-Refuse : goal.returns-in-Refuse
-returns-in-Refuse c =
-    let a = c.args in
-    rw c.stopped.ensures
-    (record { wrote = λ w. stops (dialect a.delimiter a.leniencies) a.file.now a.p c.if-file-at.false (does a.delimiter a.leniencies a.file.now a.p c.step-s.ensures c.in-Refuse.is); at_lt_at = λ w m n. c.if-file-at.false })
+pub returns-in-Quiet-clause-wrote : goal.returns-in-Quiet-clause-wrote
+returns-in-Quiet-clause-wrote c =
+    let read = c.in_ok-b.ensures.lookup.3 in
+    λ w. passes _ _ _ read.0 (does c.args.dialect c.args.file.now c.args.p read.1 c.in-Quiet.ensures)
 
-pub returns-in-Quiet : goal.returns-in-Quiet
-returns-in-Quiet c =
-    let a = c.args in
-    rw c.moved.ensures
-    (record { wrote = λ w. goes (dialect a.delimiter a.leniencies) a.file.now a.p c.if-file-at.false _ (does a.delimiter a.leniencies a.file.now a.p c.step-s.ensures c.in-Quiet.is) refl (omega arith) refl refl refl refl refl refl; at_lt_at = λ w m n. omega arith })
+pub returns-in-Quiet-2-clause-wrote : goal.returns-in-Quiet-2-clause-wrote
+returns-in-Quiet-2-clause-wrote c =
+    let read = c.in_ok-b.ensures.lookup.3 in
+    λ w. drops _ _ _ read.0 (does c.args.dialect c.args.file.now c.args.p read.1 c.in-Quiet.ensures)
 
-pub returns-in-Put : goal.returns-in-Put
-returns-in-Put c =
-    let a = c.args in
-    let d = dialect a.delimiter a.leniencies in
-    let e = does a.delimiter a.leniencies a.file.now a.p c.step-s.ensures c.in-Put.is in
-    rw (c.put_byte.ensures.value, c.put_byte.ensures.text_after)
-    (record { wrote = λ w. put-wrote d a.file.now a.p c.if-file-at.false _ e a.text.now a.ends.now a.rows.now _ refl; at_lt_at = λ w m n. rw (put-fits d a.file.now a.p c.if-file-at.false _ e m) (omega arith) })
+pub returns-in_ok-text-in-Put-clause-wrote : goal.returns-in_ok-text-in-Put-clause-wrote
+returns-in_ok-text-in-Put-clause-wrote c =
+    let read = c.in_ok-b.ensures.lookup.3 in
+    let g = rw (read.1 0) at c.in_ok-text-in-Put.ensures in
+    λ w. puts _ _ _ read.0 (does c.args.dialect c.args.file.now c.args.p read.1 c.in-Put.ensures) g
 
-pub returns-in-Hold : goal.returns-in-Hold
-returns-in-Hold c =
-    let a = c.args in
-    let e = does a.delimiter a.leniencies a.file.now a.p c.step-s.ensures c.in-Hold.is in
-    rw c.hold.ensures
-    (record { wrote = λ w. hold-wrote (dialect a.delimiter a.leniencies) a.file.now a.p c.if-file-at.false _ e a.text.now a.ends.now a.rows.now (ltb a.p.held 18446744073709551615); at_lt_at = λ w m n. rw (lt-ltb a.p.held 18446744073709551615 (omega (arith, m.held, c.if-file-at.false))) (omega arith) })
+pub returns-in_err-text-in-Put-clause-no_room_or_byte : goal.returns-in_err-text-in-Put-clause-no_room_or_byte
+returns-in_err-text-in-Put-clause-no_room_or_byte c =
+    let read = c.in_ok-b.ensures.lookup.3 in
+    let g = rw (read.1 0) at c.in_err-text-in-Put.ensures in
+    rw c.from_residual-in_err-text-in-Put.ensures
+    (λ w m. absurd (g.place (put-fits _ _ _ read.0 c.in-Put.form (does c.args.dialect c.args.file.now c.args.p read.1 c.in-Put.ensures) m)))
 
-pub returns-in-Drop : goal.returns-in-Drop
-returns-in-Drop c =
-    let a = c.args in
-    rw c.moved-in-Drop.ensures
-    (record { wrote = λ w. goes (dialect a.delimiter a.leniencies) a.file.now a.p c.if-file-at.false _ (does a.delimiter a.leniencies a.file.now a.p c.step-s.ensures c.in-Drop.is) refl (omega arith) refl refl refl refl refl refl; at_lt_at = λ w m n. omega arith })
+pub returns-in_ok-held-in-Hold-clause-wrote : goal.returns-in_ok-held-in-Hold-clause-wrote
+returns-in_ok-held-in-Hold-clause-wrote c =
+    let read = c.in_ok-b.ensures.lookup.3 in
+    λ w. holds _ _ _ read.0 (does c.args.dialect c.args.file.now c.args.p read.1 c.in-Hold.ensures) c.in_ok-held-in-Hold.ensures.1
 
-pub returns-in-EndField : goal.returns-in-EndField
-returns-in-EndField c =
-    let a = c.args in
-    let d = dialect a.delimiter a.leniencies in
-    let x = ends-here d a.file.now a.p c.if-file-at.false _ (does a.delimiter a.leniencies a.file.now a.p c.step-s.ensures c.in-EndField.is) {row = false} refl in
-    let q = c.put_end.ensures in
-    record { wrote = λ w. end-put a.p (a.p.at + 1) false a.text.now a.ends.now a.rows.now x q.value q.ends_after q.rows_after; at_lt_at = λ w m n. end-moves a.p (a.p.at + 1) false (omega arith) (end-fits x m) q.value }
+pub returns-in-EndField-clause-wrote : goal.returns-in-EndField-clause-wrote
+returns-in-EndField-clause-wrote c =
+    let read = c.in_ok-b.ensures.lookup.3 in
+    end-walks (ends-here _ _ _ read.0 _ (does c.args.dialect c.args.file.now c.args.p read.1 c.in-EndField.ensures) {row = false} refl) _ c.put_end.ensures.put
 
-pub returns-in-EndRecord : goal.returns-in-EndRecord
-returns-in-EndRecord c =
-    let a = c.args in
-    let d = dialect a.delimiter a.leniencies in
-    let x = ends-here d a.file.now a.p c.if-file-at.false _ (does a.delimiter a.leniencies a.file.now a.p c.step-s.ensures c.in-EndRecord.is) {row = true} refl in
-    let q = c.put_end-in-EndRecord.ensures in
-    record { wrote = λ w. end-put a.p (a.p.at + 1) true a.text.now a.ends.now a.rows.now x q.value q.ends_after q.rows_after; at_lt_at = λ w m n. end-moves a.p (a.p.at + 1) true (omega arith) (end-fits x m) q.value }
+pub returns-in-EndField-clause-no_room_or_byte : goal.returns-in-EndField-clause-no_room_or_byte
+returns-in-EndField-clause-no_room_or_byte c =
+    let read = c.in_ok-b.ensures.lookup.3 in
+    end-lacks (ends-here _ _ _ read.0 _ (does c.args.dialect c.args.file.now c.args.p read.1 c.in-EndField.ensures) {row = false} refl) _ c.put_end.ensures.put
+
+pub returns-in-EndRecord-clause-wrote : goal.returns-in-EndRecord-clause-wrote
+returns-in-EndRecord-clause-wrote c =
+    let read = c.in_ok-b.ensures.lookup.3 in
+    end-walks (ends-here _ _ _ read.0 _ (does c.args.dialect c.args.file.now c.args.p read.1 c.in-EndRecord.ensures) {row = true} refl) _ c.put_end-in-EndRecord.ensures.put
+
+pub returns-in-EndRecord-clause-no_room_or_byte : goal.returns-in-EndRecord-clause-no_room_or_byte
+returns-in-EndRecord-clause-no_room_or_byte c =
+    let read = c.in_ok-b.ensures.lookup.3 in
+    end-lacks (ends-here _ _ _ read.0 _ (does c.args.dialect c.args.file.now c.args.p read.1 c.in-EndRecord.ensures) {row = true} refl) _ c.put_end-in-EndRecord.ensures.put

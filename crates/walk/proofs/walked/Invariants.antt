@@ -3,12 +3,16 @@
 use Prim.Native.Nat.{◌-◌}
 use mathlib.Core.Bool.{Bool}
 use lib.ListN.{length}
-use Rattle.format.specs.Dialect.{dialect}
+use Rattle.format.specs.Meant.{dialect_of}
+use Rattle.fill.specs.Buffers.{SameBuffers, lists}
 use Rattle.fill.specs.Walk.{Wrote}
 use Rattle.walk.proofs.walked.Given as goal
 
-abbrev pub invariant-loop-h : goal.invariant-loop-h
-invariant-loop-h l = (w : Bool) → Wrote w (dialect l.delimiter l.leniencies) l.file l.initial.h l.initial.text l.initial.ends l.initial.rows l.h l.text l.ends l.rows
+abbrev pub invariant-loop-q : goal.invariant-loop-q
+invariant-loop-q l = record {
+  same : SameBuffers l.initial.to l.to;
+  wrote : (w : Bool) → Wrote w (dialect_of l.dialect) l.file l.initial.h (lists l.initial.to) l.h (lists l.to);
+}
 
-abbrev pub decreases-loop-h : goal.decreases-loop-h
-decreases-loop-h l = length l.file - l.h.at
+abbrev pub decreases-loop-q : goal.decreases-loop-q
+decreases-loop-q l = length l.file - l.h.at

@@ -1,42 +1,62 @@
-use Prim.Native.Nat.{◌+◌, ◌≤◌}
-use native.Mathlib.Omega.{arith}
-use lib.ListN.{length, length-set}
-use lib.Seq.{slice}
+use Rattle.std.proofs.Common.{◌≤◌, ◌+◌, length, set, arith, rules, sym, length-set, length-take-le}
 use Rattle.format.specs.WrittenForms.{doubled}
-use Rattle.writer.proofs.Fields.{form-bare, size-bare, size-quoted, put-quoted, last-quote}
+use Rattle.writer.proofs.Fields.{form-bare, size-bare, size-quoted, put-quoted}
+use Rattle.writer.proofs.Parts.{part_length, part_written, written_length}
 use Rattle.writer.proofs.put_field.Goals as goal
 
-pub put_inside-requires : goal.put_inside-requires
-put_inside-requires c =
-    (c.requires.0, c.requires.1, omega (arith, c.requires.2, size-bare _ _ c.is_quoted.ensures c.if-not-is_quoted.true))
+-- a field that is not quoted is its content
+pub slice_bounds-copy_from_slice-end : goal.slice_bounds-copy_from_slice-end
+slice_bounds-copy_from_slice-end c = omega (arith, c.requires, size-bare _ _ c.is_quoted.ensures c.if-not-is_quoted.true)
 
-pub returns-then-not-is_quoted : goal.returns-then-not-is_quoted
-returns-then-not-is_quoted c =
-    let e = form-bare _ _ c.is_quoted.ensures c.if-not-is_quoted.true in
-    record { value = rw e c.put_inside.ensures.value; out_after = rw e c.put_inside.ensures.out_after }
+pub slice_bounds-copy_from_slice-end-then-not-is_quoted : goal.slice_bounds-copy_from_slice-end-then-not-is_quoted
+slice_bounds-copy_from_slice-end-then-not-is_quoted c =
+    sym (length-take-le _ _ (omega (arith, c.requires, size-bare _ _ c.is_quoted.ensures c.if-not-is_quoted.true)))
 
--- the field is quoted: there is room for it, and for the content and the last quote behind the first
-pub bounds-out-at : goal.bounds-out-at
-bounds-out-at c = omega (arith, c.requires.2, size-quoted _ _ c.is_quoted.ensures c.if-not-is_quoted.false)
+pub copy_from_slice-requires : goal.copy_from_slice-requires
+copy_from_slice-requires c =
+    length-take-le _ _ (omega (arith, c.requires, size-bare _ _ c.is_quoted.ensures c.if-not-is_quoted.true))
+
+pub returns-then-not-is_quoted-clause-value : goal.returns-then-not-is_quoted-clause-value
+returns-then-not-is_quoted-clause-value c = sym (size-bare _ _ c.is_quoted.ensures c.if-not-is_quoted.true)
+
+pub returns-then-not-is_quoted-clause-out_after : goal.returns-then-not-is_quoted-clause-out_after
+returns-then-not-is_quoted-clause-out_after c =
+    rw (form-bare _ _ c.is_quoted.ensures c.if-not-is_quoted.true, c.copy_from_slice.ensures.after)
+
+-- there is room for both quotes, and for the content between them
+pub bounds-out-0 : goal.bounds-out-0
+bounds-out-0 c =
+    let room = size-quoted _ _ c.is_quoted.ensures c.if-not-is_quoted.false in
+    search rules
+
+pub slice_bounds-put_inside-count : goal.slice_bounds-put_inside-count
+slice_bounds-put_inside-count c =
+    simp length-set (omega (arith, c.requires, size-quoted _ _ c.is_quoted.ensures c.if-not-is_quoted.false))
+
+pub slice_bounds-put_inside-start : goal.slice_bounds-put_inside-start
+slice_bounds-put_inside-start c =
+    let inside : 1 ≤ length (set c.args.out.now 0 34) =
+    omega (arith, c.requires, size-quoted _ _ c.is_quoted.ensures c.if-not-is_quoted.false, length-set c.args.out.now 0 34) in
+    search rules
 
 pub put_inside-behind-requires : goal.put_inside-behind-requires
 put_inside-behind-requires c =
-    let room : c.args.at + length (doubled (slice c.args.from c.args.end c.args.text.now)) + 2 ≤ length c.args.out.now =
-    omega (arith, c.requires.2, size-quoted _ _ c.is_quoted.ensures c.if-not-is_quoted.false) in
-    (c.requires.0, c.requires.1, simp length-set (omega (arith, room)))
+    omega
+    (arith, c.requires, size-quoted _ _ c.is_quoted.ensures c.if-not-is_quoted.false, part_length (set c.args.out.now 0 34) 1, length-set c.args.out.now 0 34)
 
 pub bounds-out-behind : goal.bounds-out-behind
 bounds-out-behind c =
-    let room : c.args.at + length (doubled (slice c.args.from c.args.end c.args.text.now)) + 2 ≤ length c.args.out.now =
-    omega (arith, c.requires.2, size-quoted _ _ c.is_quoted.ensures c.if-not-is_quoted.false) in
-    last-quote _ _ _ room c.put_inside-behind.ensures.value c.put_inside-behind.ensures.out_after
+    let size = size-quoted _ _ c.is_quoted.ensures c.if-not-is_quoted.false in
+    let room : 1 + length (doubled c.args.field.now) ≤ length (set c.args.out.now 0 34) = omega (arith, c.requires, size, length-set c.args.out.now 0 34) in
+    rw (written_length (set c.args.out.now 0 34) 1 (doubled c.args.field.now) room c.put_inside-behind.ensures.out_after)
+    (omega (arith, c.put_inside-behind.ensures.value, c.requires, size, length-set c.args.out.now 0 34))
 
-pub overflow_add-result : goal.overflow_add-result
-overflow_add-result c =
-    omega (arith, c.put_inside-behind.ensures.value, c.requires.2, size-quoted _ _ c.is_quoted.ensures c.if-not-is_quoted.false, c.well_formed)
+pub returns-clause-value : goal.returns-clause-value
+returns-clause-value c = omega (arith, c.put_inside-behind.ensures.value, size-quoted _ _ c.is_quoted.ensures c.if-not-is_quoted.false)
 
-pub returns : goal.returns
-returns c =
-    let r = put-quoted _ _ c.is_quoted.ensures c.if-not-is_quoted.false _ _ c.requires.2
-    c.put_inside-behind.ensures.value c.put_inside-behind.ensures.out_after in
-    record { value = r.0; out_after = r.1 }
+pub returns-clause-out_after : goal.returns-clause-out_after
+returns-clause-out_after c =
+    let size = size-quoted _ _ c.is_quoted.ensures c.if-not-is_quoted.false in
+    let room : 1 + length (doubled c.args.field.now) ≤ length (set c.args.out.now 0 34) = omega (arith, c.requires, size, length-set c.args.out.now 0 34) in
+    (put-quoted _ _ c.is_quoted.ensures c.if-not-is_quoted.false _ c.requires c.put_inside-behind.ensures.value
+    (part_written _ 1 _ room c.put_inside-behind.ensures.out_after)).1

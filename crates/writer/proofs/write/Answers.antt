@@ -1,52 +1,39 @@
-use native.Mathlib.Omega.{arith}
-use Rattle.format.proofs.Memory.{bytes_most, fields-most, records-most}
+use Rattle.std.proofs.Common.{◌≡◌, Err, rules}
+use Rattle.format.specs.declared.WriteError.{TheVariants.UnknownMode, TheVariants.Malformed}
 use Rattle.writer.specs.Write.{WriteOutcome}
-use Rattle.writer.proofs.Outcomes.{by-3, by-9, by-10, holdable}
+use Rattle.writer.proofs.Outcomes.{by-14, by_judge, by_2, by-15, by_whole}
 use Rattle.writer.proofs.write.Goals as goal
 
-pub returns-then-mode-gt1 : goal.returns-then-mode-gt1
-returns-then-mode-gt1 c = WriteOutcome.refusal_1 c.if-mode-gt1.true
+pub returns-in_err-mode : goal.returns-in_err-mode
+returns-in_err-mode c =
+    let q : c.from_residual.result ≡ Err UnknownMode = search rules in
+    rw q (WriteOutcome.refusal_1 c.in_err-mode.ensures.0)
 
-pub returns-then-not-is_well_formed : goal.returns-then-not-is_well_formed
-returns-then-not-is_well_formed c = WriteOutcome.refusal_14 (omega (arith, c.if-mode-gt1.false)) (c.is_well_formed.ensures.if_false c.if-not-is_well_formed.true)
+pub returns-in_err-formed : goal.returns-in_err-formed
+returns-in_err-formed c =
+    let q : c.from_residual-in_err-formed.result ≡ Err Malformed = search rules in
+    rw q (by-14 c.in_ok-mode.mode c.in_ok-mode.ensures (rw c.in_err-formed.ensures.ok_part at c.formed.ensures))
 
--- there are no more bytes, fields and records than 32 bits can count
-pub overflow_cast-result : goal.overflow_cast-result
-overflow_cast-result c =
-    let w = c.is_well_formed.ensures.if_true c.if-not-is_well_formed.false in
-    omega (arith, c.if-forbidden-text.true, bytes_most w 4294967295 (λ i. omega (arith, c.type_inv.ends i)))
+pub returns-in_err-judge : goal.returns-in_err-judge
+returns-in_err-judge c =
+    let q : c.from_residual-in_err-judge.result ≡ Err c.in_err-judge.field-0.0 = search rules in
+    let e = rw c.in_ok-formed.ensures.ok_part at c.formed.ensures in
+    rw (q, ← e) (by_judge c.in_ok-mode.mode c.in_ok-mode.ensures c.in_ok-formed.formed.well_formed c.in_err-judge.ensures)
 
-pub returns-then-forbidden-text : goal.returns-then-forbidden-text
-returns-then-forbidden-text c =
-    let w = c.is_well_formed.ensures.if_true c.if-not-is_well_formed.false in
-    by-3 w (omega (arith, c.if-mode-gt1.false)) c.first_forbidden-forbidden.ensures c.if-forbidden-text.true
+pub returns-then-length : goal.returns-then-length
+returns-then-length c =
+    let e = rw c.in_ok-formed.ensures.ok_part at c.formed.ensures in
+    rw (← e) (by_2 c.in_ok-mode.mode c.in_ok-mode.ensures c.in_ok-formed.formed.well_formed c.in_ok-judge.ensures c.size-length.ensures c.if-length.true)
 
-pub overflow_cast-result-then-long-ends : goal.overflow_cast-result-then-long-ends
-overflow_cast-result-then-long-ends c =
-    let w = c.is_well_formed.ensures.if_true c.if-not-is_well_formed.false in
-    omega (arith, c.if-long-ends.true, fields-most w 4294967295 (λ i. omega (arith, c.type_inv.rows i)))
+pub returns-then-out-length : goal.returns-then-out-length
+returns-then-out-length c =
+    let e = rw c.in_ok-formed.ensures.ok_part at c.formed.ensures in
+    rw (← e)
+    (by-15 c.in_ok-mode.mode c.in_ok-mode.ensures c.in_ok-formed.formed.well_formed c.in_ok-judge.ensures c.size-length.ensures c.if-length.false c.if-out-length.true)
 
-pub returns-then-long-ends : goal.returns-then-long-ends
-returns-then-long-ends c =
-    let w = c.is_well_formed.ensures.if_true c.if-not-is_well_formed.false in
-    by-9 w c.first_forbidden-forbidden.ensures c.if-forbidden-text.false (omega (arith, c.if-mode-gt1.false)) c.first_outside-long.ensures c.if-long-ends.true
-
-pub overflow_cast-result-then-uneven-rows : goal.overflow_cast-result-then-uneven-rows
-overflow_cast-result-then-uneven-rows c =
-    let w = c.is_well_formed.ensures.if_true c.if-not-is_well_formed.false in
-    omega (arith, c.if-uneven-rows.true, records-most w 4294967295 (λ i. omega (arith, c.type_inv.rows i)))
-
-pub returns-then-uneven-rows : goal.returns-then-uneven-rows
-returns-then-uneven-rows c =
-    let w = c.is_well_formed.ensures.if_true c.if-not-is_well_formed.false in
-    by-10 w c.first_forbidden-forbidden.ensures c.if-forbidden-text.false c.first_outside-long.ensures c.if-long-ends.false
-    (omega (arith, c.if-mode-gt1.false)) c.first_uneven-uneven.ensures c.if-uneven-rows.true
-
-pub write_holdable-requires : goal.write_holdable-requires
-write_holdable-requires c =
-    let w = c.is_well_formed.ensures.if_true c.if-not-is_well_formed.false in (
-      omega (arith, c.if-mode-gt1.false),
-      w,
-      holdable w c.first_forbidden-forbidden.ensures c.if-forbidden-text.false c.first_outside-long.ensures c.if-long-ends.false
-          c.first_uneven-uneven.ensures c.if-uneven-rows.false,
-    )
+pub returns : goal.returns
+returns c =
+    let e = rw c.in_ok-formed.ensures.ok_part at c.formed.ensures in
+    rw (← e)
+    (by_whole c.in_ok-mode.mode c.in_ok-mode.ensures c.in_ok-formed.formed.well_formed c.in_ok-judge.ensures c.size-length.ensures c.if-length.false c.if-out-length.false
+    c.put.ensures)
