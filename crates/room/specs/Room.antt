@@ -12,7 +12,7 @@ use Rattle.output.specs.Stream.{onward}
 use Rattle.taking.specs.declared.Flow.{Flow}
 use Rattle.output.specs.declared.Room.{Room}
 use Rattle.taking.specs.declared.Lengths.{Lengths}
-use Rattle.taking.specs.Walk.{room_left, Inside}
+use Rattle.taking.specs.Walk.{room_left, Inside, inside_by}
 
 abbrev pub dialect_of : Check → Dialect
 dialect_of c = dialect c.delimiter c.leniencies
@@ -39,11 +39,13 @@ room_for p r =
     cond (ltb (counted p) p.text || ltb (fields_counted p) p.ends) 0
     (min (min (min (min (r.text - p.state.check.field.held) (file_limit - (counted p + p.state.check.field.held))) r.ends) r.rows) (file_limit - fields_counted p))
 
--- how many bytes can be taken at once from inside, no more than so many: none with blanks out early, or behind a close; content over the limit needs no room
+-- how many bytes can be taken at once, no more than so many: none from outside, with blanks out early, or behind a close; content over the limit needs no room
 unfoldable pub part_of : Flow → ℕ → Lengths → ℕ
 part_of p most l =
-    cond (not (eqb p.state.early 0) || not (eqb p.state.closed 0)) 0
-    (cond (ltb content_limit p.state.check.field.content) (min most (l.piece - p.taken)) (min (min most (l.piece - p.taken)) (room_for p (room_left p l))))
+    cond (inside_by p l)
+    (cond (not (eqb p.state.early 0) || not (eqb p.state.closed 0)) 0
+    (cond (ltb content_limit p.state.check.field.content) (min most (l.piece - p.taken)) (min (min most (l.piece - p.taken)) (room_for p (room_left p l)))))
+    0
 
 -- between two bytes of a stream that is not over, with no blank out early
 abbrev pub Plain : Flow → Type 0

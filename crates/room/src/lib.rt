@@ -4,7 +4,6 @@
 #![tactic(auto)]
 
 ghost use Rattle.std.specs.Prelude.{◌≡◌, ◌<◌};
-ghost use Rattle.taking.specs.Walk.{Inside};
 ghost use Rattle.room.specs.Room.{part_of, room_for, Passable};
 
 use output::Room;
@@ -15,7 +14,7 @@ use taking::{Flow, Lengths};
 #[tactic(auto, unfolding(crate::specs::Room::part_of))]
 pub fn part(p: Flow, most: usize, lengths: Lengths) -> usize
     ensures passable { 0 < result → Passable p result lengths }
-    ensures value { Inside p lengths → result ≡ part_of p most lengths }
+    ensures value { result ≡ part_of p most lengths }
 {
     let Some(room) = p.room(lengths) else {
         return 0;

@@ -3,15 +3,16 @@ use Prim.Native.Nat.{ℕ, suc, ◌+◌, ◌-◌, ◌≤◌, ◌<◌, min}
 use native.Mathlib.Numerals.{add-one}
 use native.Mathlib.Omega.{arith}
 use mathlib.Core.Path.{◌≡◌, refl, sym, ap, ◌∙◌}
-use mathlib.Core.Bool.{Bool, true, false}
+use mathlib.Core.Bool.{Bool, true, false, ◌&&◌}
 use lib.Dec.{leb}
 use Rattle.std.proofs.Common.{None, Some}
 use mathlib.Core.List.{List, [], ◌∷◌, ◌++◌, append-nil}
 use lib.ListN.{length, drop, get_or, replicate, length-append, length-replicate, drop_of_length-le}
 use lib.Seq.{sets, drop-cons, length-sets, take-append_seam}
-use borrow.Author.Tests.{leb-true, leb-false}
+use borrow.Author.Tests.{leb-true, leb-false, le-leb}
 use Rattle.format.specs.Table.{Bytes}
 use Rattle.format.proofs.Filling.{sets-append}
+use Rattle.format.proofs.Tests.{and_both}
 use Rattle.fill.specs.Buffers.{Lists}
 use Rattle.state.specs.declared.Check.{Check}
 use Rattle.state.specs.Check.{fed}
@@ -24,7 +25,7 @@ use Rattle.output.specs.declared.Due.{Due}
 use Rattle.output.proofs.Bytewise.{short-fits, short-not, fits-parts, streamed-none, streamed-over, streamed-shown, streamed-taken, streamed-stuck}
 use Rattle.taking.specs.declared.Flow.{Flow}
 use Rattle.taking.specs.declared.Lengths.{Lengths}
-use Rattle.taking.specs.Walk.{lengths, room_left, room_at, rest_of, adding, Inside, Put, Grew, Took}
+use Rattle.taking.specs.Walk.{lengths, room_left, room_at, rest_of, adding, Inside, inside_by, Put, Grew, Took}
 
 -- a buffer
 module _ {A : Type 0} where
@@ -292,6 +293,22 @@ module _ (piece : Bytes) (B : Lists) (p : Flow) (w : Inside p (lengths piece B))
             some-short Text e = omega (arith, e)
             some-short Ends e = omega (arith, e)
             some-short Rows e = omega (arith, e)
+
+-- inside by the lengths
+pub by-inside : (p : Flow) (l : Lengths) → inside_by p l ≡ true → Inside p l
+by-inside p l h =
+    let x = and_both ((leb p.taken l.piece && leb p.text l.text) && leb p.ends l.ends) (leb p.rows l.rows) h in
+    let y = and_both (leb p.taken l.piece && leb p.text l.text) (leb p.ends l.ends) x.0 in
+    let z = and_both (leb p.taken l.piece) (leb p.text l.text) y.0 in
+    record {
+      taken_in = leb-true p.taken l.piece z.0;
+      text_in = leb-true p.text l.text z.1;
+      ends_in = leb-true p.ends l.ends y.1;
+      rows_in = leb-true p.rows l.rows x.1;
+    }
+
+pub inside-by : (p : Flow) (l : Lengths) → Inside p l → inside_by p l ≡ true
+inside-by p l w = rw (le-leb p.taken l.piece w.taken_in, le-leb p.text l.text w.text_in, le-leb p.ends l.ends w.ends_in, le-leb p.rows l.rows w.rows_in)
 
 -- Two calls that have come as far have written the same.
 same-front : {A : Type 0} (xs ys r s : List A) → xs ++ r ≡ ys ++ s → length xs ≡ length ys → xs ≡ ys

@@ -1,5 +1,5 @@
 -- What the functions of the walk over a piece promise one another, by how far the call has come.
-use Rattle.std.specs.Prelude.{ℕ, ◌+◌, ◌-◌, ◌≤◌, ◌<◌, ◌≡◌, None, List, length, drop}
+use Rattle.std.specs.Prelude.{ℕ, ◌+◌, ◌-◌, ◌≤◌, ◌<◌, ◌≡◌, Bool, ◌&&◌, None, List, leb, length, drop}
 use Rattle.std.proofs.lemmas.List.Edits.{sets}
 use Rattle.format.specs.Table.{Bytes}
 use Rattle.fill.specs.Buffers.{Lists}
@@ -42,6 +42,10 @@ pub record Inside (p : Flow) (l : Lengths) : Type 0 where
   pub text_in : p.text ≤ l.text
   pub ends_in : p.ends ≤ l.ends
   pub rows_in : p.rows ≤ l.rows
+
+-- the same by the lengths alone
+abbrev pub inside_by : Flow → Lengths → Bool
+inside_by p l = ((leb p.taken l.piece && leb p.text l.text) && leb p.ends l.ends) && leb p.rows l.rows
 
 -- new was written at a place of a buffer
 pub record Put {A : Type 0} (buf : List A) (at : ℕ) (new buf' : List A) (at' : ℕ) : Type 0 where

@@ -84,10 +84,11 @@ impl Flow {
         ensures { result ≡ record { state = onward check; taken = taken; text = self.text; ends = self.ends; rows = self.rows; short = None } }
     {
         Flow {
-            state: Stream::onward(check),
+            text: self.text,
+            ends: self.ends,
+            rows: self.rows,
             taken,
-            short: None,
-            ..self
+            ..Flow::new(Stream::onward(check))
         }
     }
 
