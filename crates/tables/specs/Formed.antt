@@ -33,6 +33,14 @@ pub record Cuts (from : ℕ) (text : Bytes) (ends : List ℕ) : Type 0 where
   pub last_end : last_of from ends ≤ length text
   pub few : length ends ≤ largest32
 
+-- rows that divide fields from a number on into records: they never fall, and count fields that are there; the ends of all fields, and where the first of the records begins in the text
+pub record Divides (text : Bytes) (ends : List ℕ) (first from : ℕ) (rows : List ℕ) : Type 0 where
+  pub ends_never_fall : Ordered ◌≤◌ 0 ends
+  pub last_end : last_of 0 ends ≤ length text
+  pub begins : from ≡ start_of ends first
+  pub rows_never_fall : Ordered ◌≤◌ first rows
+  pub last_row : last_of first rows ≤ length ends
+
 -- numbers stand in an order in one way at most, where any two do
 pub Ordered-prop : (R : ℕ → ℕ → Type 0) → ((n m : ℕ) → IsProp (R n m)) → (n : ℕ) (l : List ℕ) → IsProp (Ordered R n l)
 Ordered-prop R only n [] = Unit-prop

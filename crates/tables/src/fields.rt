@@ -1,22 +1,21 @@
 // A record's fields and a table's records, one after the other.
 
 ghost use Rattle.std.proofs.Props.{props};
-ghost use Rattle.tables.specs.Formed.{Cuts, Ordered-prop};
+ghost use Rattle.tables.specs.Formed.{Cuts, Divides, Ordered-prop};
 
-use crate::Formed;
-use std::ops::Range;
+use crate::start_of;
 
 // Fields that are still to come: where the first begins in text, and where each ends.
 #[derive(Clone, Copy)]
-pub struct Fields<'a> {
-    pub(crate) text: &'a [u8],
+pub struct Fields<'t, 'n> {
+    pub(crate) text: &'t [u8],
     pub(crate) from: usize,
-    pub(crate) ends: &'a [u32],
+    pub(crate) ends: &'n [u32],
     ghost cuts: { Cuts from text.now ends.now } by { Prim.hlevel (props, Ordered-prop) },
 }
 
-impl<'a> Iterator for Fields<'a> {
-    type Item = &'a [u8];
+impl<'t, 'n> Iterator for Fields<'t, 'n> {
+    type Item = &'t [u8];
 
     ghost use Rattle.std.specs.Prelude.{length};
     ghost use Rattle.std.specs.Iterator.{YieldsFirstRef, at_most};
@@ -27,7 +26,7 @@ impl<'a> Iterator for Fields<'a> {
     ghost remaining = { λ s. at_most (length s.ends.now) };
 
     #[tactic(auto, unfolding(format::specs::Memory::parts))]
-    fn next(&mut self) -> Option<&'a [u8]> {
+    fn next(&mut self) -> Option<&'t [u8]> {
         let (end, ends) = self.ends.split_first()?;
         let field = &self.text[self.from..*end as usize];
         self.from = *end as usize;
@@ -36,27 +35,42 @@ impl<'a> Iterator for Fields<'a> {
     }
 }
 
-// Records that are still to come, by their numbers.
+// Records that are still to come: the number of the first one's first field, where it begins in text, and
+// for each record the number of fields so far.
 #[derive(Drop)]
-pub struct Records<'a> {
-    pub(crate) table: Formed<'a>,
-    pub(crate) numbers: Range<usize>,
+pub struct Records<'t, 'n> {
+    pub(crate) text: &'t [u8],
+    pub(crate) ends: &'n [u32],
+    pub(crate) first: usize,
+    pub(crate) start: usize,
+    pub(crate) rows: &'n [u32],
+    ghost divides: { Divides text.now ends.now first start rows.now } by { Prim.hlevel (props, Ordered-prop) },
 }
 
-impl<'a> Iterator for Records<'a> {
-    type Item = Fields<'a>;
+impl<'t, 'n> Iterator for Records<'t, 'n> {
+    type Item = Fields<'t, 'n>;
 
-    ghost use Rattle.std.specs.Prelude.{◌-◌};
+    ghost use Rattle.std.specs.Prelude.{length};
     ghost use Rattle.std.specs.Iterator.{YieldsFirstBy, at_most};
     ghost use Rattle.tables.specs.Fields.{contents};
     ghost use Rattle.tables.specs.Records.{records};
 
     ghost next_gives = { YieldsFirstBy contents records };
 
-    ghost remaining = { λ s. at_most (s.numbers.end - s.numbers.start) };
+    ghost remaining = { λ s. at_most (length s.rows.now) };
 
-    fn next(&mut self) -> Option<Fields<'a>> {
-        let number = self.numbers.next()?;
-        self.table.record(number)
+    #[tactic(auto, unfolding(format::specs::Memory::parts))]
+    fn next(&mut self) -> Option<Fields<'t, 'n>> {
+        let (next, rows) = self.rows.split_first()?;
+        let next = *next as usize;
+        let fields = Fields {
+            text: self.text,
+            from: self.start,
+            ends: &self.ends[self.first..next],
+        };
+        self.first = next;
+        self.start = start_of(self.ends, next) as usize;
+        self.rows = rows;
+        Some(fields)
     }
 }

@@ -19,23 +19,24 @@ use format::{FieldNumber, Part, RecordNumber, SearchError, TextIndex};
 use std::ops::Range;
 
 // A table in memory, well formed or not: the text of all fields joined; for each field the text's length
-// so far; for each record the number of fields so far.
+// so far; for each record the number of fields so far. The numbers have a lifetime of their own: a part of
+// the text that is shown outlives them.
 #[derive(Clone, Copy)]
-pub struct Table<'a> {
-    pub text: &'a [u8],
-    pub ends: &'a [u32],
-    pub rows: &'a [u32],
+pub struct Table<'t, 'n> {
+    pub text: &'t [u8],
+    pub ends: &'n [u32],
+    pub rows: &'n [u32],
 }
 
 // A table that is well formed.
 #[derive(Clone, Copy)]
-pub struct Formed<'a> {
-    pub table: Table<'a>,
+pub struct Formed<'t, 'n> {
+    pub table: Table<'t, 'n>,
     ghost well_formed: { WellFormed table.text.now table.ends.now table.rows.now } by { Prim.hlevel (props, Ordered-prop) },
     ghost small: { Small table.text.now table.ends.now table.rows.now },
 }
 
-impl<'a> Table<'a> {
+impl<'t, 'n> Table<'t, 'n> {
     // Whether it is well formed.
     pub fn is_well_formed(&self) -> bool
         ensures { Decides result (WellFormed self.now.text.now self.now.ends.now self.now.rows.now) }
@@ -44,7 +45,7 @@ impl<'a> Table<'a> {
     }
 
     // The same table, known to be well formed; or none, where it is not.
-    pub fn formed(&self) -> Option<Formed<'a>>
+    pub fn formed(&self) -> Option<Formed<'t, 'n>>
         ensures { MatchOption result
             (¬ (WellFormed self.now.text.now self.now.ends.now self.now.rows.now))
             (λ formed. formed.table ≡ self.now) }
@@ -59,7 +60,7 @@ impl<'a> Table<'a> {
 
     // The field of a record and a column, both from 0, as a part of text; or the stand-in, where the table
     // is malformed or has no such place. Nothing is copied.
-    pub fn show(&self, record: RecordNumber, column: FieldNumber, stand_in: &'a [u8]) -> &'a [u8]
+    pub fn show(&self, record: RecordNumber, column: FieldNumber, stand_in: &'t [u8]) -> &'t [u8]
         ensures { Shown self.now.text.now self.now.ends.now self.now.rows.now «record».0 column.0
             stand_in.now result.now }
     {
@@ -91,12 +92,12 @@ impl<'a> Table<'a> {
     }
 }
 
-impl<'a> Formed<'a> {
+impl<'t, 'n> Formed<'t, 'n> {
     ghost use mathlib.Core.List.{flatten};
     ghost use Rattle.tables.specs.Records.{held, records};
 
     // The fields of a record, from 0, if there is one.
-    pub fn record(&self, record: usize) -> Option<Fields<'a>>
+    pub fn record(&self, record: usize) -> Option<Fields<'t, 'n>>
         ensures { option_map contents result ≡ slice_get (held self.now) «record» }
     {
         let Table { text, ends, .. } = self.table;
@@ -110,7 +111,7 @@ impl<'a> Formed<'a> {
     }
 
     // All its fields, record after record.
-    pub fn fields(&self) -> Fields<'a>
+    pub fn fields(&self) -> Fields<'t, 'n>
         ensures { contents result ≡ flatten (held self.now) }
     {
         Fields {
@@ -121,12 +122,16 @@ impl<'a> Formed<'a> {
     }
 
     // Its records, one after the other.
-    pub fn records(&self) -> Records<'a>
+    pub fn records(&self) -> Records<'t, 'n>
         ensures { records result ≡ held self.now }
     {
+        let Table { text, ends, rows } = self.table;
         Records {
-            table: *self,
-            numbers: 0..self.table.rows.len(),
+            text,
+            ends,
+            first: 0,
+            start: 0,
+            rows,
         }
     }
 
@@ -179,7 +184,7 @@ impl<'a> Formed<'a> {
 }
 
 // The lowest column whose name is that of an earlier one, if there is one.
-fn first_repeated(header: Fields<'_>) -> Option<usize>
+fn first_repeated(header: Fields<'_, '_>) -> Option<usize>
     ensures { let names = contents header.entry in Least (Repeats names) (length names) result }
 {
     header
@@ -188,7 +193,7 @@ fn first_repeated(header: Fields<'_>) -> Option<usize>
 }
 
 // Whether a column before that one has the name.
-fn has_before(header: Fields<'_>, column: usize, name: &[u8]) -> bool
+fn has_before(header: Fields<'_, '_>, column: usize, name: &[u8]) -> bool
     ensures { let names = contents header.entry in
         Decides result ((i : ℕ) × (i < column) × (i < length names) × Named names name.now i) }
 {
@@ -196,7 +201,7 @@ fn has_before(header: Fields<'_>, column: usize, name: &[u8]) -> bool
 }
 
 // The lowest column that has the name, if there is one.
-fn first_named(mut header: Fields<'_>, name: &[u8]) -> Option<usize>
+fn first_named(mut header: Fields<'_, '_>, name: &[u8]) -> Option<usize>
     ensures { let names = contents header.entry in
         Least (Named names name.now) (length names) result }
 {
@@ -231,8 +236,8 @@ pub fn first_outside(list: &[u32], least: u32, most: u32) -> Option<usize>
 fn strays(before: u32, next: u32, least: u32, most: u32) -> bool
     ensures { IsTrue result ↔ Strays least most (before, next) }
 {
-    next.checked_sub(before)
-        .is_none_or(|distance| distance < least || most < distance)
+    let (before, next) = (u64::from(before), u64::from(next));
+    next < before + u64::from(least) || before + u64::from(most) < next
 }
 
 // Where entry k begins, or one behind the last: at the entry before it, or at 0.

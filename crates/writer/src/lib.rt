@@ -14,11 +14,11 @@ ghost use Rattle.format.specs.Table.{Bytes};
 ghost use Rattle.tables.specs.Seek.{Sought, Strays, paired};
 ghost use Rattle.tables.specs.Fields.{contents};
 ghost use Rattle.tables.specs.Records.{held};
-ghost use Rattle.writer.specs.Form.{quotes, form_in, line_by, Names};
+ghost use Rattle.writer.specs.declared.Mode.{TheVariants.Plain};
+ghost use Rattle.writer.specs.Form.{quotes, form_in, line_by, Begun, Names};
 ghost use Rattle.writer.specs.Write.{Forbidden, TableOutcome, WriteOutcome};
 
 use format::{FieldNumber, RecordNumber, TextIndex, WriteError};
-use steps::Class;
 use tables::fields::Fields;
 use tables::{Formed, Table};
 
@@ -45,7 +45,7 @@ impl TryFrom<u8> for Mode {
 
 // Writes a table as a strict file, plain in mode 0 and full in mode 1: the file from the front of out,
 // what stands behind it left alone, and its length; or the refusal, and nothing written.
-pub fn write(table: &Table<'_>, mode: u8, out: &mut [u8]) -> Result<u32, WriteError>
+pub fn write(table: &Table<'_, '_>, mode: u8, out: &mut [u8]) -> Result<u32, WriteError>
     ensures { WriteOutcome table.now.text.now table.now.ends.now table.now.rows.now mode out.old
         (writer_numbers result) out.new }
 {
@@ -64,7 +64,7 @@ pub fn write(table: &Table<'_>, mode: u8, out: &mut [u8]) -> Result<u32, WriteEr
 }
 
 // Whether strict can hold a table; or the lowest byte, field or record that it cannot.
-fn judge(formed: &Formed<'_>) -> Result<(), WriteError>
+fn judge(formed: &Formed<'_, '_>) -> Result<(), WriteError>
     ensures { let text = formed.now.table.text.now in MatchResult result
         (λ _. CanHold strict (held formed.now))
         (λ e. (file out : Bytes) → TableOutcome text (held formed.now) file out (writer_numbers (Err e)) out) }
@@ -90,10 +90,11 @@ fn first_forbidden(text: &[u8]) -> Option<usize>
 }
 
 // Whether a byte is one that strict cannot hold.
+#[tactic(auto, unfolding(format::specs::Dialect::class_of))]
 fn is_forbidden(b: u8) -> bool
     ensures { IsTrue result ↔ Forbidden b }
 {
-    matches!(steps::class_of(format::STRICT, b), Class::Forbidden)
+    !matches!(b, b'\n' | b'\r' | b' '..=b'~')
 }
 
 // The first record with another number of fields than record 0, if there is one.
@@ -106,7 +107,7 @@ fn first_uneven(rows: &[u32]) -> Option<usize>
 
 // The length of the file: its text with each quote doubled, two quotes about each field that is quoted,
 // a comma or a CR behind each field, and an LF behind each record.
-fn size(formed: &Formed<'_>, mode: Mode) -> usize
+fn size(formed: &Formed<'_, '_>, mode: Mode) -> usize
     ensures { result ≡ length (table_by (form_in mode) strict (held formed.now)) }
 {
     let Table { text, ends, rows } = formed.table;
@@ -136,7 +137,7 @@ fn is_special(b: u8) -> bool
 }
 
 // Writes the file.
-fn put(formed: &Formed<'_>, mode: Mode, out: &mut [u8])
+fn put(formed: &Formed<'_, '_>, mode: Mode, out: &mut [u8])
     requires { length (table_by (form_in mode) strict (held formed.now)) ≤ length out.old }
     ensures { out.new ≡ over (table_by (form_in mode) strict (held formed.now)) out.old }
 {
@@ -147,7 +148,7 @@ fn put(formed: &Formed<'_>, mode: Mode, out: &mut [u8])
 }
 
 // Writes a record with its line break, and says how long they are.
-fn put_record(fields: Fields<'_>, mode: Mode, out: &mut [u8]) -> usize
+fn put_record(fields: Fields<'_, '_>, mode: Mode, out: &mut [u8]) -> usize
     requires some_field { 1 ≤ length (contents fields) }
     requires room { length (line_by (form_in mode) strict (contents fields)) ≤ length out.old }
     ensures value { result ≡ length (line_by (form_in mode) strict (contents fields.entry)) }
@@ -171,14 +172,39 @@ fn put_field(field: &[u8], mode: Mode, out: &mut [u8]) -> usize
     ensures value { result ≡ length (form_in mode field.now) }
     ensures out_after { out.new ≡ over (form_in mode field.now) out.old }
 {
-    if !is_quoted(field, mode) {
-        out[..field.len()].copy_from_slice(field);
+    if put_bare(field, mode, out) {
         return field.len();
     }
     out[0] = b'"';
     let behind = 1 + put_inside(field, &mut out[1..]);
     out[behind] = b'"';
     behind + 1
+}
+
+// Writes a content as it is, up to what has it quoted, and says whether nothing has. One walk does both: most
+// contents are short, and a call of `copy_from_slice` for each takes longer.
+fn put_bare(content: &[u8], mode: Mode, out: &mut [u8]) -> bool
+    requires { length content.now ≤ length out.old }
+    ensures { Begun mode content.now out.old result out.new }
+{
+    match mode {
+        Mode::Plain => put_ordinary(content, out),
+        Mode::Full => false,
+    }
+}
+
+// Writes a content as it is, up to its first special byte, and says whether it has none.
+fn put_ordinary(content: &[u8], out: &mut [u8]) -> bool
+    requires { length content.now ≤ length out.old }
+    ensures { Begun Plain content.now out.old result out.new }
+{
+    for (i, b) in content.iter().enumerate() {
+        if is_special(*b) {
+            return false;
+        }
+        out[i] = *b;
+    }
+    true
 }
 
 // Writes a content with each quote doubled, and says how long that is.

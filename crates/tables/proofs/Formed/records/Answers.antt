@@ -1,9 +1,10 @@
-use Rattle.std.proofs.Common.{arith}
-use Rattle.std.proofs.Math.Seq.{take_all}
-use Rattle.format.proofs.Memory.{table-length}
+use Rattle.std.proofs.Common.{sym}
+use Rattle.format.proofs.Memory.{table-parts}
+use Rattle.tables.proofs.Cutting.{all_divided}
 use Rattle.tables.proofs.Formed.records.Goals as goal
 
+pub invariant_of-result : goal.invariant_of-result
+invariant_of-result c = record { divides = all_divided c.args.self.now.well_formed }
+
 pub returns : goal.returns
-returns c =
-    let f = c.args.self.now.table in
-    take_all _ _ (omega (arith, table-length f.text.now f.ends.now f.rows.now))
+returns c = sym (table-parts _ _ _)
