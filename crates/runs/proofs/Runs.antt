@@ -9,12 +9,17 @@ use lib.ListN.{length, get_or, drop, length-drop}
 use borrow.Author.Tests.{eqb-true, leb-true, le-leb}
 use lib.Dec.{eqb, leb}
 use lib.Seq.{drop-drop, get_or-drop}
-use Rattle.std.specs.List.{prefix_len}
+use Rattle.std.specs.List.{prefix_len, slice_range}
 use Rattle.std.specs.Simd.{first_chunks}
+use Rattle.std.proofs.lemmas.List.{take_all}
 use Rattle.std.proofs.lemmas.List.Sums.{prefix_len-le-length, prefix_len_passes, prefix_len_stops}
 use Rattle.format.specs.Table.{Bytes}
 use Rattle.format.proofs.Tests.{and_both}
 use Rattle.runs.specs.Runs.{run, pairs, is_break}
+
+-- the bytes of a range that goes to the end
+pub rest-is : (s rest : Bytes) (i : ℕ) → rest ≡ slice_range s i (length s) → rest ≡ drop i s
+rest-is s rest i e = e ∙ take_all (length s - i) (drop i s) (omega (arith, length-drop i s))
 
 pub run-le : (p : ℕ → Bool) (f : Bytes) → run p f ≤ length f
 unfolding run

@@ -50,7 +50,10 @@ pub fn is_inner(b: u8) -> bool
 pub fn inner_blocks(s: &[u8], from: usize) -> usize
     ensures { result ≡ run is_inner (drop from s.now) / 16 * 16 }
 {
-    16 * whole_blocks::<16, _>(bytes_from(s, from), is_inner)
+    let Some(rest) = s.get(from..) else {
+        return 0;
+    };
+    16 * whole_blocks::<16, _>(rest, is_inner)
 }
 
 // How many whole blocks of N bytes stand at the front whose bytes all pass a test.
@@ -84,20 +87,25 @@ fn all_pass<F: Fn(u8) -> bool>(block: &[u8], test: &F) -> bool
 pub fn inner_run(s: &[u8], from: usize) -> usize
     ensures { result ≡ run is_inner (drop from s.now) }
 {
-    let passed = inner_blocks(s, from);
-    let rest = bytes_from(bytes_from(s, from), passed);
-    passed + rest.iter().take_while(|b| is_inner(**b)).count()
+    let Some(rest) = s.get(from..) else {
+        return 0;
+    };
+    let passed = inner_blocks(rest, 0);
+    passed + rest[passed..].iter().take_while(|b| is_inner(**b)).count()
 }
 
 // How many pairs of quotes stand from a place on, one behind the other. None and one are answered
-// first, and a block is tried only where a quote follows the first pair.
+// first, and blocks are tried only where a quote follows the first pair and one stands 32 bytes on.
 #[tactic(auto, using(crate::proofs::Runs::pairs_none, crate::proofs::Runs::pairs_one))]
 pub fn pair_run(s: &[u8], from: usize) -> usize
     ensures { result ≡ pairs (drop from s.now) }
 {
-    let rest = bytes_from(s, from);
+    let Some(rest) = s.get(from..) else {
+        return 0;
+    };
     match rest {
-        [0x22, 0x22, 0x22, ..] => pairs_by_blocks(rest),
+        [0x22, 0x22, 0x22, ..] if matches!(rest.get(32), Some(0x22)) => pairs_by_blocks(rest),
+        [0x22, 0x22, 0x22, ..] => pairs_at_front(rest),
         [0x22, 0x22, ..] => 1,
         _ => 0,
     }
@@ -126,7 +134,7 @@ fn pairs_at_front(bytes: &[u8]) -> usize
 pub fn is_break(s: &[u8], at: usize) -> bool
     ensures { result ≡ is_break (drop at s.now) }
 {
-    matches!(bytes_from(s, at), [0x0D, 0x0A, ..])
+    matches!(s.get(at..), Some([0x0D, 0x0A, ..]))
 }
 
 // How many line feeds stand from a place on.

@@ -93,17 +93,16 @@ const STEPS: [[Move; 7]; 7] = [
 pub fn step(dialect: Dialect, form: u8, b: u8) -> Stepped
     ensures { result ≡ coded (step_of (names dialect.leniencies lf) (form_of form) (class_of (dialect_of dialect) b)) }
 {
-    let t = table();
     let class = class_of(dialect, b);
-    step_by(&t, dialect.allows(Leniency::Lf), form, class)
+    step_by(table(), dialect.allows(Leniency::Lf), form, class)
 }
 
 // The step table.
 #[tactic(auto, unfolding(crate::specs::Numbers::step_table))]
-fn table() -> [[Move; 7]; 7]
-    ensures { result ≡ step_table }
+fn table() -> &'static [[Move; 7]; 7]
+    ensures { result.now ≡ step_table }
 {
-    STEPS
+    &STEPS
 }
 
 // Whether b is a byte that only the leniency "bytes" allows, if it is not the delimiter.

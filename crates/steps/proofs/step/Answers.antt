@@ -4,4 +4,4 @@ use Rattle.steps.proofs.step.Goals as goal
 
 pub returns : goal.returns
 returns c =
-    rw (c.step_by.ensures, c.table-t.ensures, step-any, c.allows.ensures, c.class_of-class.ensures, class-back)
+    rw (c.step_by.ensures, c.table.ensures, step-any, c.allows.ensures, c.class_of-class.ensures, class-back)
