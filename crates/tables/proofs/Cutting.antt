@@ -1,12 +1,13 @@
 -- Fields of a text, one after the other.
-use Rattle.std.proofs.Common.{◌≡◌, ℕ, zero, suc, ◌-◌, ◌≤◌, ◌<◌, List, [], ◌∷◌, length, length-take, get_or, take, drop, refl, sym, ap, ◌∙◌, arith, Some, None, slice_get}
-use Rattle.std.proofs.Math.Seq.{slice}
-use Rattle.std.proofs.lemmas.Option.{slice_get-get_or, slice_get_past}
+use Rattle.std.proofs.Common.{◌≡◌, ℕ, zero, suc, ◌+◌, ◌-◌, ◌≤◌, ◌<◌, List, [], ◌∷◌, length, length-take, get_or, take, drop, refl, sym, ap, ◌∙◌, arith, add-one, drop_of_length-le, Option, Some, None, option_map, MatchOption, slice_get}
+use Rattle.std.proofs.Math.Seq.{slice, length-slice, drop-cons, take-nil}
+use Rattle.std.proofs.lemmas.Option.{slice_get-get_or, slice_get_past, slice_get_within, get_or_from_slice_get}
 use Rattle.std.proofs.lemmas.Slice.{between_is}
-use Rattle.format.specs.Table.{Bytes, Content, last_of}
+use Rattle.format.specs.Table.{Bytes, Content, Table, Every, last_of}
 use Rattle.format.specs.Memory.{largest32, Ordered, WellFormed, parts, table_of, start_of}
-use Rattle.format.proofs.Memory.{rising-never-falls, last-first, last-above, table-length, table-parts, length-parts, part_at}
-use Rattle.tables.specs.Formed.{Cuts, Divides, Row}
+use Rattle.format.proofs.Memory.{rising-never-falls, last-first, last-above, table-length, table-parts, length-parts, part_at, well_formed}
+use Rattle.tables.specs.Formed.{Cuts, Divides, Rest, Row, Small}
+use Rattle.tables.proofs.Testing.{ordered-so, rising-most}
 
 -- the first end is in the text, and the others cut what is behind it
 pub first_cut : {from end : ℕ} {text : Bytes} {ends : List ℕ} → Cuts from text (end ∷ ends) → (from ≤ end) × (end ≤ length text) × Cuts end text ends
@@ -112,6 +113,38 @@ all_divided {text} {ends} {rows} w =
       last_row = omega (arith, w.last_row);
     }
 
+-- all of a well formed table is left, and then what is behind the first record
+pub all_left : {text : Bytes} {ends rows : List ℕ} → WellFormed text ends rows → Rest text ends 0 rows
+all_left w = record { rows_rise = w.rows_rise; last_row = omega (arith, w.last_row); last_end = omega (arith, w.last_end) }
+
+pub others_left : {text : Bytes} {ends rows : List ℕ} {first next : ℕ} → Rest text ends first (next ∷ rows) → Rest text ends next rows
+others_left {rows = rows} {first} {next} left =
+    record { rows_rise = left.rows_rise.1; last_row = omega (arith, left.last_row, last-first first next rows); last_end = left.last_end }
+
+-- each record that is left has a field
+pub each_some :
+    {text : Bytes} {ends rows : List ℕ} {first from : ℕ}
+    → Divides text ends first from rows → Rest text ends first rows → Every (λ (cs : List Content). 1 ≤ length cs) (parts first (parts 0 text ends) rows)
+unfolding parts
+each_some {rows = []} d left = tt
+each_some {text} {ends} {rows = next ∷ rows} {first} d left =
+    let within = first_within d in
+    let cut : length (slice first next (parts 0 text ends)) ≡ next - first = length-slice first next (parts 0 text ends) (omega (arith, within.1, length-parts 0 text ends)) in
+    (omega (arith, cut, left.rows_rise), each_some (others d refl) (others_left left))
+
+-- what is left is what a well formed table has from some record on
+pub of_table :
+    {text : Bytes} {ends rows : List ℕ} {first from : ℕ} → Divides text ends first from rows → Rest text ends first rows → Small text ends rows
+    → (all : List ℕ) × (n : ℕ) × WellFormed text ends all × Small text ends all × (parts first (parts 0 text ends) rows ≡ drop n (table_of text ends all))
+unfolding parts table_of
+of_table {text} {ends} {rows} {first = zero} d left small = (rows, 0, well_formed left.rows_rise (omega (arith, left.last_row)) d.ends_never_fall (omega (arith, left.last_end)), small, refl)
+of_table {text} {ends} {rows} {first = suc k} d left small =
+    let last = last-first 0 (suc k) rows in
+    (suc k ∷ rows, 1, well_formed (omega arith, left.rows_rise) (omega (arith, last, left.last_row)) d.ends_never_fall (omega (arith, left.last_end)), small_on, refl)
+  where
+    small_on : Small text ends (suc k ∷ rows)
+    small_on = record { bytes = small.bytes; fields = small.fields; records = omega (arith, small.fields, left.last_row, rising-most (suc k) rows (ordered-so (λ a b h. omega arith) (suc k) rows left.rows_rise)) }
+
 module _ {text : Bytes} {ends rows : List ℕ} (w : WellFormed text ends rows) {r first next from : ℕ} (row : Row rows (length ends) r first next) (e : from ≡ start_of ends first) where
   pub record_cut : next ≤ largest32 → Cuts from text (take (next - first) (drop first ends))
   record_cut = range_cut text ends w.ends_never_fall (omega (arith, w.last_end)) row.in_order row.within e
@@ -132,6 +165,20 @@ pub past : {A : Type 0} (l : List A) (n : ℕ) → slice_get l n ≡ None → le
 past [] n e = omega arith
 past (x ∷ l) zero e = cc
 past (x ∷ l) (suc n) e = omega (arith, past l n e)
+
+-- what a walk over the records from n to next takes, if it asks for record n
+pub steps :
+    {A : Type 0} (shows : A → List Content) (t : Table) (n next : ℕ) (r : Option A) → n < next → option_map shows r ≡ slice_get t n
+    → MatchOption r ((take (next - n) (drop n t) ≡ []) × (take (next - (n + 1)) (drop (n + 1) t) ≡ []))
+    (λ x. take (next - n) (drop n t) ≡ shows x ∷ take (next - (n + 1)) (drop (n + 1) t))
+steps shows t n next None h e =
+    let p = past t n (sym e) in
+    let q : length t ≤ n + 1 = omega (arith, p) in
+    (rw (drop_of_length-le t p) (take-nil (next - n)), rw (drop_of_length-le t q) (take-nil (next - (n + 1))))
+steps shows t n next (Some x) h e =
+    let there = slice_get_within t n (shows x) (sym e) in
+    let m : next - n ≡ suc (next - suc n) = omega arith in
+    rw (drop-cons t n (shows x) there, get_or_from_slice_get t n (shows x) (shows x) (sym e), m, add-one)
 
 -- no more fields than 32 bits count
 pub count_of : {from : ℕ} {text : Bytes} {ends : List ℕ} → Cuts from text ends → length (parts from text ends) ≤ largest32

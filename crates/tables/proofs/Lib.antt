@@ -1,5 +1,6 @@
 pub mod Cutting
 pub mod Distances
+pub mod Left
 pub mod Searching
 pub mod Seeking
 pub mod Showing

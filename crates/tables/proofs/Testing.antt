@@ -31,12 +31,12 @@ module _ (least most : ℕ) (l : List ℕ) (n : ℕ) (r : Option ℕ) (s : Sough
   pub counts_otherwise : ((i : ℕ) → get_or l i 0 ≤ most) → is_some r ≡ true → CountsTo least l n → ⊥
   counts_otherwise f some c = out_of_order least most 0 l r f some s c.ordered
 
-ordered-so : {R S : ℕ → ℕ → Type 0} → ((a b : ℕ) → R a b → S a b) → (n : ℕ) (l : List ℕ) → Ordered R n l → Ordered S n l
+pub ordered-so : {R S : ℕ → ℕ → Type 0} → ((a b : ℕ) → R a b → S a b) → (n : ℕ) (l : List ℕ) → Ordered R n l → Ordered S n l
 ordered-so f n [] o = tt
 ordered-so f n (m ∷ l) o = (f n m o.0, ordered-so f m l o.1)
 
 -- numbers that rise are no more than the last
-rising-most : (n : ℕ) (l : List ℕ) → Ordered (λ a b. a + 1 ≤ b) n l → n + length l ≤ last_of n l
+pub rising-most : (n : ℕ) (l : List ℕ) → Ordered (λ a b. a + 1 ≤ b) n l → n + length l ≤ last_of n l
 unfolding last_of
 rising-most n [] o = omega arith
 rising-most n (m ∷ l) o = omega (arith, rising-most m l o.1)

@@ -41,6 +41,12 @@ pub record Divides (text : Bytes) (ends : List ℕ) (first from : ℕ) (rows : L
   pub rows_never_fall : Ordered ◌≤◌ first rows
   pub last_row : last_of first rows ≤ length ends
 
+-- the rest of a well formed table, from a field's number on: each of its records has a field, they count all the fields, and these all the text
+pub record Rest (text : Bytes) (ends : List ℕ) (first : ℕ) (rows : List ℕ) : Type 0 where
+  pub rows_rise : Ordered ◌<◌ first rows
+  pub last_row : last_of first rows ≡ length ends
+  pub last_end : last_of 0 ends ≡ length text
+
 -- numbers stand in an order in one way at most, where any two do
 pub Ordered-prop : (R : ℕ → ℕ → Type 0) → ((n m : ℕ) → IsProp (R n m)) → (n : ℕ) (l : List ℕ) → IsProp (Ordered R n l)
 Ordered-prop R only n [] = Unit-prop

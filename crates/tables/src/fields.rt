@@ -1,7 +1,7 @@
 // A record's fields and a table's records, one after the other.
 
 ghost use Rattle.std.proofs.Props.{props};
-ghost use Rattle.tables.specs.Formed.{Cuts, Divides, Ordered-prop};
+ghost use Rattle.tables.specs.Formed.{Cuts, Divides, Rest, Small, Ordered-prop};
 
 use crate::start_of;
 
@@ -35,8 +35,8 @@ impl<'t, 'n> Iterator for Fields<'t, 'n> {
     }
 }
 
-// Records that are still to come: the number of the first one's first field, where it begins in text, and
-// for each record the number of fields so far.
+// Records that are still to come, the last ones of a well formed table: the number of the first one's first
+// field, where it begins in text, and for each record the number of fields so far.
 #[derive(Drop)]
 pub struct Records<'t, 'n> {
     pub(crate) text: &'t [u8],
@@ -45,6 +45,8 @@ pub struct Records<'t, 'n> {
     pub(crate) start: usize,
     pub(crate) rows: &'n [u32],
     ghost divides: { Divides text.now ends.now first start rows.now } by { Prim.hlevel (props, Ordered-prop) },
+    ghost rest: { Rest text.now ends.now first rows.now } by { Prim.hlevel (props, Ordered-prop) },
+    ghost small: { Small text.now ends.now rows.now },
 }
 
 impl<'t, 'n> Iterator for Records<'t, 'n> {
