@@ -1,9 +1,9 @@
 -- Fields of a text, one after the other.
 use Rattle.std.proofs.Common.{◌≡◌, ℕ, zero, suc, ◌+◌, ◌-◌, ◌≤◌, ◌<◌, List, [], ◌∷◌, length, length-take, get_or, take, drop, refl, sym, ap, ◌∙◌, arith, add-one, drop_of_length-le, Option, Some, None, option_map, MatchOption, slice_get}
-use Rattle.std.proofs.Math.Seq.{slice, length-slice, drop-cons, take-nil}
+use Rattle.std.proofs.Math.Seq.{slice, drop-cons, take-nil}
 use Rattle.std.proofs.lemmas.Option.{slice_get-get_or, slice_get_past, slice_get_within, get_or_from_slice_get}
 use Rattle.std.proofs.lemmas.Slice.{between_is}
-use Rattle.format.specs.Table.{Bytes, Content, Table, Every, last_of}
+use Rattle.format.specs.Table.{Bytes, Content, Table, last_of}
 use Rattle.format.specs.Memory.{largest32, Ordered, WellFormed, parts, table_of, start_of}
 use Rattle.format.proofs.Memory.{rising-never-falls, last-first, last-above, table-length, table-parts, length-parts, part_at, well_formed}
 use Rattle.tables.specs.Formed.{Cuts, Divides, Rest, Row, Small}
@@ -121,29 +121,23 @@ pub others_left : {text : Bytes} {ends rows : List ℕ} {first next : ℕ} → R
 others_left {rows = rows} {first} {next} left =
     record { rows_rise = left.rows_rise.1; last_row = omega (arith, left.last_row, last-first first next rows); last_end = left.last_end }
 
--- each record that is left has a field
-pub each_some :
-    {text : Bytes} {ends rows : List ℕ} {first from : ℕ}
-    → Divides text ends first from rows → Rest text ends first rows → Every (λ (cs : List Content). 1 ≤ length cs) (parts first (parts 0 text ends) rows)
-unfolding parts
-each_some {rows = []} d left = tt
-each_some {text} {ends} {rows = next ∷ rows} {first} d left =
-    let within = first_within d in
-    let cut : length (slice first next (parts 0 text ends)) ≡ next - first = length-slice first next (parts 0 text ends) (omega (arith, within.1, length-parts 0 text ends)) in
-    (omega (arith, cut, left.rows_rise), each_some (others d refl) (others_left left))
+-- no more records are left than fields
+pub few_left : {text : Bytes} {ends rows : List ℕ} {first : ℕ} → Rest text ends first rows → first + length rows ≤ length ends
+few_left {rows = rows} {first} left = omega (arith, left.last_row, rising-most first rows (ordered-so (λ a b h. omega arith) first rows left.rows_rise))
 
 -- what is left is what a well formed table has from some record on
 pub of_table :
     {text : Bytes} {ends rows : List ℕ} {first from : ℕ} → Divides text ends first from rows → Rest text ends first rows → Small text ends rows
     → (all : List ℕ) × (n : ℕ) × WellFormed text ends all × Small text ends all × (parts first (parts 0 text ends) rows ≡ drop n (table_of text ends all))
-unfolding parts table_of
-of_table {text} {ends} {rows} {first = zero} d left small = (rows, 0, well_formed left.rows_rise (omega (arith, left.last_row)) d.ends_never_fall (omega (arith, left.last_end)), small, refl)
-of_table {text} {ends} {rows} {first = suc k} d left small =
-    let last = last-first 0 (suc k) rows in
-    (suc k ∷ rows, 1, well_formed (omega arith, left.rows_rise) (omega (arith, last, left.last_row)) d.ends_never_fall (omega (arith, left.last_end)), small_on, refl)
-  where
-    small_on : Small text ends (suc k ∷ rows)
-    small_on = record { bytes = small.bytes; fields = small.fields; records = omega (arith, small.fields, left.last_row, rising-most (suc k) rows (ordered-so (λ a b h. omega arith) (suc k) rows left.rows_rise)) }
+of_table {text} {ends} {rows} {first = zero} d left small =
+    (rows, 0, well_formed left.rows_rise (omega (arith, left.last_row)) d.ends_never_fall (omega (arith, left.last_end)), small, sym (table-parts text ends rows))
+of_table {text} {ends} {rows} {first = suc k} d left small = (
+  suc k ∷ rows,
+  1,
+  well_formed (omega arith, left.rows_rise) (omega (arith, last-first 0 (suc k) rows, left.last_row)) d.ends_never_fall (omega (arith, left.last_end)),
+  record { bytes = small.bytes; fields = small.fields; records = omega (arith, small.fields, few_left left) },
+  sym (ap (drop 1) (table-parts text ends (suc k ∷ rows) ∙ first_part 0 (suc k) (parts 0 text ends) rows)),
+)
 
 module _ {text : Bytes} {ends rows : List ℕ} (w : WellFormed text ends rows) {r first next from : ℕ} (row : Row rows (length ends) r first next) (e : from ≡ start_of ends first) where
   pub record_cut : next ≤ largest32 → Cuts from text (take (next - first) (drop first ends))
